@@ -1,0 +1,83 @@
+-- The demands, as theorems about the definitions of `specs/`. A file is a list of bytes. This page states; the proofs are in the files that it
+-- names. `Asked` (in specs/) has the words used here: AllKept, FirstBroken, Agree, SameAnswers, Repainted, SameKeys. Assumes nothing.
+use Prim.Native.Nat.{ℕ, _+_, _<_}
+use mathlib.Core.Path.{_≡_, refl, sym, ap, _∙_}
+use mathlib.Core.Bool.{false}
+use mathlib.Core.List.{List, [], _∷_, map}
+use lib.ListN.{length, getD}
+use Rattle.paper.specs.Outcome.{Rule, verdict}
+use Rattle.paper.specs.Keys.{keyCount, keyRules}
+use Rattle.paper.specs.Judge.{view, runsOf, stripsOf, verdictOf, rules, readingList}
+use Rattle.paper.specs.Judge.{headRules, countRules, dirRules, viewRules, tagRules, groundRules}
+use Rattle.paper.specs.Calls.{readRuns}
+use Rattle.paper.specs.Block.{blockOf, blockLeft}
+use Rattle.paper.specs.Asked.{AllKept, FirstBroken, Agree, onList, SameAnswers, noStrip, Within, InStrip, Repainted, Bytes, SameKeys, lentRuns}
+use Rattle.paper.proofs.First.{first-kept, first-broken, broken-first, verdict-rules, all-kept}
+use Rattle.paper.proofs.Unseen.{verdict-same, judged-same, rows-same, rowsLeft-same, cited-same, text-same, block-same, blockLeft-same}
+use Rattle.paper.proofs.Citation.{citation-same}
+use Rattle.paper.proofs.Metadata.{metadata-same}
+use Rattle.paper.proofs.Picture.{strips-within, strips-unread, repainted-agree}
+use Rattle.paper.proofs.Trip.{read-accepted, read-same}
+use Rattle.paper.specs.declared.Verdict.{Verdict}
+
+module _ (f : List ℕ) where
+  -- The rules are numbered 1 to 22 and stand in that order.
+  pub in-order : map (λ (r : Rule). r .number) (rules f)
+      ≡ 1 ∷ 2 ∷ 3 ∷ 4 ∷ 5 ∷ 6 ∷ 7 ∷ 8 ∷ 9 ∷ 10 ∷ 11 ∷ 12 ∷ 13 ∷ 14 ∷ 15 ∷ 16 ∷ 17 ∷ 18 ∷ 19 ∷ 20 ∷ 21 ∷ 22 ∷ []
+  unfolding rules headRules countRules dirRules viewRules tagRules keyRules groundRules
+  in-order = refl
+
+  -- DEMAND 2. A file is accepted, verdict 0 with place 0, exactly where no rule is broken.
+  pub accepted : AllKept (rules f) → verdictOf f ≡ verdict 0 0
+  accepted h = verdict-rules f ∙ first-kept (rules f) h
+
+  pub accepted-only : verdictOf f .number ≡ 0 → AllKept (rules f)
+  accepted-only z = all-kept f z
+
+  -- Otherwise the verdict is the number of the first broken rule, with that rule's place; and it is no other number.
+  pub refused : (k p : ℕ) → FirstBroken (rules f) k p → verdictOf f ≡ verdict k p
+  refused k p h = verdict-rules f ∙ first-broken (rules f) k p h
+
+  pub refused-only : (k p : ℕ) → verdictOf f ≡ verdict k p → (k ≡ 0 → ⊥) → FirstBroken (rules f) k p
+  refused-only k p h n = broken-first (rules f) k p (sym (verdict-rules f) ∙ h) n
+
+-- The written key block reads back: where the call accepts, the three runs in the lent output, cut by the three lengths that it gave, keep rules 15
+-- to 19, give the same K, and hold the same keys in the same order with the same values, doubles by their 64 bits.
+module _ (f out : List ℕ) (bytes : Bytes f) (accepts : blockOf f (length out) .verdict .number ≡ 0) where
+  pub block-accepted : readRuns (lentRuns (blockLeft f out) (blockOf f (length out))) ≡ record { verdict = verdict 0 0; keys = keyCount (runsOf (view f)) }
+  block-accepted = read-accepted f out bytes accepts
+
+  pub block-keys : SameKeys (runsOf (view f)) (lentRuns (blockLeft f out) (blockOf f (length out)))
+  block-keys = read-same f out bytes accepts
+
+-- DEMAND 3. Two files of equal length that agree on every byte of the first file's reading list get the same answers from every call, whatever is
+-- lent or asked: verdict, place, K, georeference, corners, rows, citation (place and bytes), metadata text, key block and its lengths.
+pub unseen : (f g : List ℕ) → length f ≡ length g → Agree f g (readingList f) → SameAnswers f g
+unseen f g n h =
+    record {
+      verdict = verdict-same f g n h;
+      judged = judged-same f g n h;
+      counted = rows-same f g n h;
+      rows = rowsLeft-same f g n h;
+      cited = cited-same f g n h;
+      citations = citation-same f g n h;
+      texts = text-same f g n h;
+      metadatas = metadata-same f g n h;
+      lengths = block-same f g n h;
+      blocks = blockLeft-same f g n h;
+    }
+
+module _ (f : List ℕ) (accepts : verdictOf f .number ≡ 0) where
+  -- In an accepted file every strip lies within the file, behind its head,
+  pub strips-inside : (k : ℕ) → k < length (stripsOf (view f)) → Within (length f) (getD (stripsOf (view f)) k noStrip .place)
+  strips-inside = strips-within f accepts
+
+  -- no byte of a strip is on the reading list,
+  pub strips-closed : (k : ℕ) → k < length (stripsOf (view f)) → (i : ℕ) → InStrip f k i → onList i (readingList f) ≡ false
+  strips-closed = strips-unread f accepts
+
+  -- and so repainting the strips changes no answer.
+  pub picture : (g : List ℕ) → Repainted f g → SameAnswers f g
+  picture g r = unseen f g (r .long) (repainted-agree f g accepts r)
+
+-- The marked examples are in `Marked` (`marked`, one table), the 45 kinds and the order of the tables in `Tables` (`kinds`, `known-order`).

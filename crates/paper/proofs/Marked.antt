@@ -1,0 +1,230 @@
+-- Document 01, 'File A', 'Marked examples' and 'Errors that tempt': files, what the calls answer for each, and that the definitions give just
+-- that, computed. Assumes nothing.
+use Prim.Native.Nat.{ℕ, _+_}
+use mathlib.Core.Path.{_≡_, refl}
+use mathlib.Core.Bool.{false}
+use mathlib.Core.List.{List, [], _∷_, _++_, map}
+use lib.ListN.{length, replicate}
+use lib.Seq.{sets}
+use lib.Ieee as Ieee
+use lib.Ieee.{Float, fin, binary64}
+use lib.IntN.{pos, negsuc}
+use Rattle.paper.specs.Bytes.{enc}
+use Rattle.paper.specs.Outcome.{verdict}
+use Rattle.paper.specs.Ground.{ofNat}
+use Rattle.paper.specs.Calls.{noCorners, judgedOf, rowsOf, rowsLeft, citedOf}
+use Rattle.paper.specs.Block.{joined, encs}
+use Rattle.paper.proofs.Computed.{computed}
+use Rattle.paper.specs.declared.Verdict.{Verdict}
+use Rattle.paper.specs.declared.Corners.{Corners}
+use Rattle.paper.specs.declared.Counted.{Counted}
+use Rattle.paper.specs.declared.Cited.{Cited}
+use Rattle.paper.specs.declared.Row.{Row}
+
+-- ---- file A
+
+shorts : List ℕ → List ℕ
+unfolding encs joined enc
+shorts ns = encs 2 ns
+
+longs : List ℕ → List ℕ
+unfolding encs joined enc
+longs ns = encs 4 ns
+
+doubles : List ℕ → List ℕ
+unfolding encs joined enc
+doubles ns = encs 8 ns
+
+-- tag, type, count, value or offset
+entry : ℕ → ℕ → ℕ → ℕ → List ℕ
+unfolding shorts longs
+entry tag type count value = shorts (tag ∷ type ∷ []) ++ longs (count ∷ value ∷ [])
+
+-- an offset of the directory at 8, and the scale and tiepoint of A
+head : List ℕ
+unfolding shorts longs
+head = 0x49 ∷ 0x49 ∷ shorts (42 ∷ []) ++ longs (8 ∷ [])
+
+ground : List ℕ
+unfolding doubles
+ground =
+    doubles (0x3FE0000000000000 ∷ 0x3FE0000000000000 ∷ 0 ∷ [])
+    ++ doubles (0 ∷ 0 ∷ 0 ∷ 0x411E848000000000 ∷ 0x414E848000000000 ∷ 0 ∷ [])
+
+pub fileA : List ℕ
+unfolding shorts longs entry head ground
+fileA =
+    head
+    ++ shorts (12 ∷ [])
+    ++ entry 256 3 1 4
+    ++ entry 257 3 1 2
+    ++ entry 258 3 1 8
+    ++ entry 259 3 1 1
+    ++ entry 262 3 1 1
+    ++ entry 273 3 1 262
+    ++ entry 277 3 1 1
+    ++ entry 278 3 1 2
+    ++ entry 279 3 1 8
+    ++ entry 33550 12 3 158
+    ++ entry 33922 12 6 182
+    ++ entry 34735 3 16 230
+    ++ longs (0 ∷ [])
+    ++ ground
+    ++ shorts (1 ∷ 1 ∷ 0 ∷ 3 ∷ [])
+    ++ shorts (1024 ∷ 0 ∷ 1 ∷ 1 ∷ [])
+    ++ shorts (1025 ∷ 0 ∷ 1 ∷ 1 ∷ [])
+    ++ shorts (3072 ∷ 0 ∷ 1 ∷ 32633 ∷ [])
+    ++ replicate 8 0
+
+pub length-A : length fileA ≡ 270
+unfolding fileA
+length-A = refl
+
+-- A with other bytes from a place on
+pub changed : ℕ → List ℕ → List ℕ
+unfolding fileA
+changed i bs = sets fileA i bs
+
+-- ---- the table of marked examples
+
+-- a file, the rows that are lent, and what is answered: verdict with place and K, and the corners
+pub record Answers : Type 0 where
+  pub counted : Counted
+  pub corners : Corners
+
+pub record Example : Type 0 where
+  pub file : List ℕ
+  pub lent : ℕ
+  pub gives : Answers
+
+answers : Verdict → ℕ → Corners → Answers
+answers v k c = record { counted = record { verdict = v; keys = k }; corners = c }
+
+-- k halves, as a double
+half : ℕ → Float
+unfolding Ieee.mul Ieee.ofInt Ieee.round
+half k = Ieee.mul binary64 (ofNat k) (fin false 1 (negsuc 0))
+
+halves : ℕ → ℕ → ℕ → ℕ → Corners
+unfolding half
+halves a b c d = record { x0 = half a; y0 = half b; x1 = half c; y1 = half d }
+
+-- (500000, 4000000) and (500002, 3999999)
+area : Corners
+unfolding halves
+area = halves 1000000 8000000 1000004 7999998
+
+-- (500000, 4000000) and (500001.5, 3999999.5)
+point : Corners
+unfolding halves
+point = halves 1000000 8000000 1000003 7999999
+
+accepted : List ℕ → ℕ → Corners → Example
+unfolding answers
+accepted f k c = record { file = f; lent = 256; gives = answers (verdict 0 0) k c }
+
+refused : List ℕ → ℕ → ℕ → Example
+unfolding answers
+refused f k p = record { file = f; lent = 256; gives = answers (verdict k p) 0 noCorners }
+
+pub examples : List Example
+unfolding accepted refused answers area point fileA changed enc
+examples =
+    -- A
+    accepted fileA 3 area
+    -- 1025 = 2
+    ∷ accepted (changed 252 (enc 2 2)) 3 point
+    -- empty
+    ∷ refused [] 1 0
+    -- 4D 4D at the start
+    ∷ refused (changed 0 (0x4D ∷ 0x4D ∷ [])) 3 0
+    -- next offset 8
+    ∷ refused (changed 154 (enc 4 8)) 8 0
+    -- strip at 263, and at 261
+    ∷ refused (changed 78 (enc 2 263)) 13 0
+    ∷ refused (changed 78 (enc 2 261)) 14 0
+    -- minor revision 1
+    ∷ refused (changed 234 (enc 2 1)) 15 0
+    -- 1024 and 1025 exchanged
+    ∷ refused (changed 238 (enc 2 1025 ++ enc 2 0 ++ enc 2 1 ++ enc 2 1 ++ enc 2 1024)) 16 1024
+    -- key 1025 at location 34737
+    ∷ refused (changed 248 (enc 2 34737)) 17 1025
+    -- 1024 = 2
+    ∷ refused (changed 244 (enc 2 2)) 18 2048
+    -- 3072 = 32662
+    ∷ refused (changed 260 (enc 2 32662)) 19 3072
+    -- scale X = 0
+    ∷ refused (changed 158 (enc 8 0)) 21 33550
+    -- two rows lent: the rows call refuses, the corners are A's
+    ∷ record { file = fileA; lent = 2; gives = answers (verdict 23 3) 0 area }
+    ∷ []
+
+pub marked : map (λ x. record { counted = rowsOf (x .file) (x .lent); corners = judgedOf (x .file) .corners }) examples ≡ map (λ x. x .gives) examples
+unfolding examples computed
+marked = refl
+
+-- the rows of A, with four lent: the last keeps its content
+unfoldable pub row : ℕ → ℕ → ℕ → ℕ → Row
+row k n f l = record { key = k; kind = n; first = f; len = l }
+
+pub rows-A : rowsLeft fileA (replicate 4 (row 7 7 7 7)) ≡ row 1024 0 244 2 ∷ row 1025 0 252 2 ∷ row 3072 0 260 2 ∷ row 7 7 7 7 ∷ []
+unfolding fileA computed row
+rows-A = refl
+
+-- ---- errors that tempt
+
+-- a strip whose end, 2 to the 32nd, is 0 in 32 bits; a scale Y of -0.5
+pub tempting : List Example
+unfolding refused fileA changed enc
+tempting =
+    refused (sets (changed 72 (enc 2 4)) 78 (enc 4 4294967288)) 13 0
+    ∷ refused (changed 166 (enc 8 0xBFE0000000000000)) 21 33550
+    ∷ []
+
+pub tempted : map (λ x. record { counted = rowsOf (x .file) (x .lent); corners = judgedOf (x .file) .corners }) tempting ≡ map (λ x. x .gives) tempting
+unfolding tempting computed
+tempted = refl
+
+-- A with two doubles, of which a key has the second, and with the characters ab|, which stand in their entry
+pub fileB : List ℕ
+unfolding shorts longs doubles entry head ground
+fileB =
+    head
+    ++ shorts (14 ∷ [])
+    ++ entry 256 3 1 4
+    ++ entry 257 3 1 2
+    ++ entry 258 3 1 8
+    ++ entry 259 3 1 1
+    ++ entry 262 3 1 1
+    ++ entry 273 3 1 318
+    ++ entry 277 3 1 1
+    ++ entry 278 3 1 2
+    ++ entry 279 3 1 8
+    ++ entry 33550 12 3 182
+    ++ entry 33922 12 6 206
+    ++ entry 34735 3 24 254
+    ++ entry 34736 12 2 302
+    ++ entry 34737 2 3 0x7C6261
+    ++ longs (0 ∷ [])
+    ++ ground
+    ++ shorts (1 ∷ 1 ∷ 0 ∷ 5 ∷ [])
+    ++ shorts (1024 ∷ 0 ∷ 1 ∷ 1 ∷ [])
+    ++ shorts (1025 ∷ 0 ∷ 1 ∷ 1 ∷ [])
+    ++ shorts (1026 ∷ 34737 ∷ 3 ∷ 0 ∷ [])
+    ++ shorts (2057 ∷ 34736 ∷ 1 ∷ 1 ∷ [])
+    ++ shorts (3072 ∷ 0 ∷ 1 ∷ 32633 ∷ [])
+    ++ doubles (0x41583FC410000000 ∷ 0x415854A640000000 ∷ [])
+    ++ replicate 8 0
+
+pub rows-B : rowsLeft fileB (replicate 5 (row 0 0 0 0)) ≡ row 1024 0 268 2 ∷ row 1025 0 276 2 ∷ row 1026 2 174 3 ∷ row 2057 1 310 8 ∷ row 3072 0 300 2 ∷ []
+unfolding fileB computed row
+rows-B = refl
+
+pub judged-B : judgedOf fileB .keys ≡ 5
+unfolding fileB computed
+judged-B = refl
+
+-- the citation lies in its entry, and has no "|"
+pub cited-B : citedOf fileB 1026 ≡ record { verdict = verdict 0 0; start = 174; len = 2 }
+unfolding fileB computed
+cited-B = refl

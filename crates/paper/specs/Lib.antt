@@ -1,0 +1,14 @@
+pub mod Bytes
+pub mod Outcome
+pub mod Tests
+pub mod Tag
+pub mod Key
+pub mod Layout
+pub mod Tags
+pub mod Strips
+pub mod Keys
+pub mod Ground
+pub mod Judge
+pub mod Calls
+pub mod Block
+pub mod Asked

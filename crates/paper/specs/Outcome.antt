@@ -1,0 +1,63 @@
+-- A rule is kept, or broken at a place. A judgement is the first broken rule of a list, with its number. Assumes nothing.
+use Prim.Native.Nat.{ℕ}
+use mathlib.Core.Bool.{Bool, true, false, cond}
+use mathlib.Core.List.{List, [], _∷_}
+use lib.Dec.{ltb, eqb}
+use Rattle.paper.specs.declared.Verdict.{Verdict}
+pub use Rattle.paper.specs.declared.Outcome.{Outcome}
+pub use Rattle.paper.specs.declared.Outcome.the-variants.{Kept as kept, Broken as broken}
+
+-- ---- one rule
+
+-- broken at p where the test passes
+abbrev pub breaks : Bool → ℕ → Outcome
+breaks true p = broken p
+breaks false p = kept
+
+-- the first that is broken
+unfoldable pub firstOf : List Outcome → Outcome
+firstOf [] = kept
+firstOf (kept ∷ os) = firstOf os
+firstOf (broken p ∷ os) = broken p
+
+-- broken at the place of the first element that is bad
+unfoldable pub firstBad : {A : Type 0} → (A → Bool) → (A → ℕ) → List A → Outcome
+firstBad bad place [] = kept
+firstBad bad place (x ∷ xs) = cond (bad x) (broken (place x)) (firstBad bad place xs)
+
+-- each number is greater than the one before; broken at the later of the first pair where it is not
+unfoldable pub ascendingFrom : ℕ → List ℕ → Outcome
+ascendingFrom a [] = kept
+ascendingFrom a (b ∷ bs) = cond (ltb a b) (ascendingFrom b bs) (broken b)
+
+unfoldable pub ascending : List ℕ → Outcome
+ascending [] = kept
+ascending (b ∷ bs) = ascendingFrom b bs
+
+-- ---- rules in order, each with its number
+
+pub record Rule : Type 0 where
+  pub number : ℕ
+  pub outcome : Outcome
+
+infix 80 _▸_
+abbrev pub _▸_ : ℕ → Outcome → Rule
+_▸_ k o = record { number = k; outcome = o }
+
+abbrev pub verdict : ℕ → ℕ → Verdict
+verdict k p = record { number = k; place = p }
+
+-- rule k's verdict where it is broken, and else what the later rules give
+abbrev pub orElse : ℕ → Outcome → Verdict → Verdict
+orElse k kept v = v
+orElse k (broken p) v = verdict k p
+
+-- the first broken rule with its place; 0 where all are kept
+unfoldable pub first : List Rule → Verdict
+first [] = verdict 0 0
+first (r ∷ rs) = orElse (r .number) (r .outcome) (first rs)
+
+-- the first verdict, or the second where the first is 0
+infixr 20 _▷_
+abbrev pub _▷_ : Verdict → Verdict → Verdict
+_▷_ v w = cond (eqb (v .number) 0) w v

@@ -1,0 +1,64 @@
+-- Document 01, the strips of the picture, and rules 13 and 14: where they may lie. A strip is seen as a place in the file; its bytes are
+-- never looked at. Assumes nothing.
+use Prim.Native.Nat.{ℕ, _+_, _*_, min, max}
+use mathlib.Core.Bool.{Bool, _||_}
+use mathlib.Core.List.{List, [], _∷_, map}
+use lib.Dec.{ltb, eqb}
+use Rattle.paper.specs.Bytes.{num, build}
+use Rattle.paper.specs.Outcome.{Outcome, firstBad}
+use Rattle.paper.specs.Tests.{some, keep}
+use Rattle.paper.specs.Layout.{sizeOf, dirLen}
+use Rattle.paper.specs.Tags.{Line, Held, find, bytesOf, countOf, listed}
+use Rattle.paper.specs.Tag
+
+-- so many bytes from a start
+pub record Part : Type 0 where
+  pub start : ℕ
+  pub len : ℕ
+
+abbrev pub part : ℕ → ℕ → Part
+part s l = record { start = s; len = l }
+
+-- some byte is in both
+unfoldable pub shares : Part → Part → Bool
+shares a b = ltb (max (a .start) (b .start)) (min (a .start + a .len) (b .start + b .len))
+
+-- the value bytes of every entry whose tag is in the table and whose type is 1 to 12
+unfoldable pub valueParts : List Line → List Held → List Part
+valueParts tb hs = map (λ h. part (h .entry .start) (h .entry .len)) (keep (λ h. listed tb (h .entry)) hs)
+
+-- the full reading list of a file whose directory, of c entries, stands at `at`
+unfoldable pub fullList : List Line → ℕ → ℕ → List Held → List Part
+fullList tb at c hs = part 0 8 ∷ part at 2 ∷ part at (dirLen c) ∷ valueParts tb hs
+
+-- ---- the strips
+
+pub record Strip : Type 0 where
+  pub index : ℕ
+  pub place : Part
+
+unfoldable pub stripAt : Bool → List Held → ℕ → Strip
+stripAt big hs i =
+    let a : ℕ = sizeOf (find Tag.stripOffsets hs .entry .typ) in
+    let b : ℕ = sizeOf (find Tag.stripByteCounts hs .entry .typ) in
+    record {
+      index = i;
+      place = part (num big a (bytesOf Tag.stripOffsets hs) (a * i)) (num big b (bytesOf Tag.stripByteCounts hs) (b * i));
+    }
+
+-- rule 12 has seen that 273 and 279 have one count
+unfoldable pub strips : Bool → List Held → List Strip
+strips big hs = build (stripAt big hs) 0 (countOf Tag.stripOffsets hs)
+
+-- byte count 0, offset below 8, or an end past n: the sum is of whole numbers
+unfoldable pub badStrip : ℕ → Strip → Bool
+badStrip n s = eqb (s .place .len) 0 || (ltb (s .place .start) 8 || ltb n (s .place .start + s .place .len))
+
+unfoldable pub rule13 : ℕ → List Strip → Outcome
+rule13 n ss = firstBad (badStrip n) (λ s. s .index) ss
+
+unfoldable pub touches : List Part → Strip → Bool
+touches parts s = some (shares (s .place)) parts
+
+unfoldable pub rule14 : List Part → List Strip → Outcome
+rule14 parts ss = firstBad (touches parts) (λ s. s .index) ss

@@ -1,0 +1,159 @@
+-- Document 01, the table of tags, and rules 9 to 12. From here on a rule sees the value bytes of the table's tags, which are runs of the
+-- file. `tb` is a table and `hs` are the entries of a directory, so that another kind of directory may have a table of its own.
+-- Assumes nothing.
+use Prim.Native.Nat.{ℕ, _+_, _-_, _*_, _/_}
+use mathlib.Core.Bool.{Bool, true, false, cond, not, _&&_, _||_}
+use mathlib.Core.List.{List, [], _∷_}
+use lib.Dec.{ltb, leb, eqb}
+use Rattle.paper.specs.Bytes.{run, num, elems}
+use Rattle.paper.specs.Outcome.{Outcome, breaks, firstOf, firstBad}
+use Rattle.paper.specs.Tests.{all, some, Range, between, just, free, allows}
+use Rattle.paper.specs.Layout.{sizeOf, typed}
+use Rattle.paper.specs.Tag
+use Rattle.paper.specs.declared.Entry.{Entry}
+
+-- ---- the table
+
+-- a tag, whether it is needed, the one or two types it may have, the least and the most of its count, and the values allowed
+pub record Line : Type 0 where
+  pub tag : ℕ
+  pub needed : Bool
+  pub type : ℕ
+  pub other : ℕ
+  pub least : ℕ
+  pub most : ℕ
+  pub values : List Range
+
+abbrev pub line : ℕ → Bool → ℕ → ℕ → ℕ → ℕ → List Range → Line
+line t n a b l m v = record { tag = t; needed = n; type = a; other = b; least = l; most = m; values = v }
+
+abbrev pub yes : Bool
+yes = true
+
+abbrev pub no : Bool
+no = false
+
+abbrev pub BYTE : ℕ
+BYTE = 1
+
+abbrev pub ASCII : ℕ
+ASCII = 2
+
+abbrev pub SHORT : ℕ
+SHORT = 3
+
+abbrev pub LONG : ℕ
+LONG = 4
+
+abbrev pub DOUBLE : ℕ
+DOUBLE = 12
+
+-- the greatest number that 4 bytes hold: as a count, 'or more'
+abbrev pub more : ℕ
+more = 4294967295
+
+-- values 'see 13', 'see 15', 'see 21' and 'any' are free here: the rules named test them
+unfoldable pub table : List Line
+table =
+    line Tag.width yes SHORT LONG 1 1 (between 1 1000000 ∷ [])
+    ∷ line Tag.length yes SHORT LONG 1 1 (between 1 1000000 ∷ [])
+    ∷ line Tag.bits yes SHORT SHORT 1 more (just 1 ∷ just 8 ∷ just 16 ∷ just 32 ∷ [])
+    ∷ line Tag.compression yes SHORT SHORT 1 1 (just 1 ∷ just 2 ∷ just 32773 ∷ [])
+    ∷ line Tag.photometric yes SHORT SHORT 1 1 (between 0 3 ∷ [])
+    ∷ line Tag.stripOffsets yes SHORT LONG 1 more free
+    ∷ line Tag.samples yes SHORT SHORT 1 1 (between 1 8 ∷ [])
+    ∷ line Tag.rowsPerStrip yes SHORT LONG 1 1 (between 1 more ∷ [])
+    ∷ line Tag.stripByteCounts yes SHORT LONG 1 more free
+    ∷ line Tag.planar no SHORT SHORT 1 1 (just 1 ∷ [])
+    ∷ line Tag.scale no DOUBLE DOUBLE 3 3 free
+    ∷ line Tag.tiepoint no DOUBLE DOUBLE 6 6 free
+    ∷ line Tag.matrix no DOUBLE DOUBLE 16 16 free
+    ∷ line Tag.keyDirectory yes SHORT SHORT 4 more free
+    ∷ line Tag.doubles no DOUBLE DOUBLE 1 more free
+    ∷ line Tag.characters no ASCII ASCII 1 more free
+    ∷ line Tag.metadata no BYTE BYTE 1 more free
+    ∷ []
+
+unfoldable pub inTable : List Line → ℕ → Bool
+inTable tb t = some (λ l. eqb (l .tag) t) tb
+
+-- ---- an entry with its value bytes
+
+pub record Held : Type 0 where
+  pub entry : Entry
+  pub bytes : List ℕ
+
+-- the value bytes are on the reading list: the tag is in the table and the type is 1 to 12
+unfoldable pub listed : List Line → Entry → Bool
+listed tb e = inTable tb (e .tag) && typed e
+
+-- the only place where a rule after 8 gets bytes of the file f
+unfoldable pub hold : List Line → List ℕ → Entry → Held
+hold tb f e = record { entry = e; bytes = cond (listed tb e) (run f (e .start) (e .len)) [] }
+
+abbrev pub absent : Held
+absent = record { entry = record { tag = 0; typ = 0; count = 0; start = 0; len = 0 }; bytes = [] }
+
+-- the entry of a tag; `absent`, whose tag is 0 and whose bytes are none, where there is none
+unfoldable pub find : ℕ → List Held → Held
+find t [] = absent
+find t (h ∷ hs) = cond (eqb (h .entry .tag) t) h (find t hs)
+
+-- for a tag other than 0
+unfoldable pub has : ℕ → List Held → Bool
+has t hs = eqb (find t hs .entry .tag) t
+
+abbrev pub bytesOf : ℕ → List Held → List ℕ
+bytesOf t hs = find t hs .bytes
+
+abbrev pub countOf : ℕ → List Held → ℕ
+countOf t hs = find t hs .entry .count
+
+unfoldable pub valuesOf : Bool → ℕ → List Held → List ℕ
+valuesOf big t hs = elems big (sizeOf (find t hs .entry .typ)) (countOf t hs) (bytesOf t hs)
+
+-- the only, or the first, value of a tag
+unfoldable pub valueOf : Bool → ℕ → List Held → ℕ
+valueOf big t hs = num big (sizeOf (find t hs .entry .typ)) (bytesOf t hs) 0
+
+-- ---- rules 9 to 12
+
+unfoldable pub lacks : List Held → Line → Bool
+lacks hs l = l .needed && not (has (l .tag) hs)
+
+unfoldable pub rule9 : List Line → List Held → Outcome
+rule9 tb hs = firstBad (lacks hs) (λ l. l .tag) tb
+
+unfoldable pub fitsLine : Line → Entry → Bool
+fitsLine l e =
+    (eqb (e .typ) (l .type) || eqb (e .typ) (l .other)) && (leb (l .least) (e .count) && leb (e .count) (l .most))
+
+unfoldable pub misfits : List Held → Line → Bool
+misfits hs l = has (l .tag) hs && not (fitsLine l (find (l .tag) hs .entry))
+
+unfoldable pub rule10 : List Line → List Held → Outcome
+rule10 tb hs = firstBad (misfits hs) (λ l. l .tag) tb
+
+unfoldable pub disallowed : Bool → List Held → Line → Bool
+disallowed big hs l = has (l .tag) hs && not (all (allows (l .values)) (valuesOf big (l .tag) hs))
+
+unfoldable pub rule11 : List Line → Bool → List Held → Outcome
+rule11 tb big hs = firstBad (disallowed big hs) (λ l. l .tag) tb
+
+-- length / rows per strip, rounded up
+unfoldable pub stripCount : ℕ → ℕ → ℕ
+stripCount length rows = (length + (rows - 1)) / rows
+
+-- `bits` is the first value of 258; with the first line kept, every value
+unfoldable pub rule12 : Bool → List Held → Outcome
+rule12 big hs =
+    let bits : ℕ = valueOf big Tag.bits hs in
+    let samples : ℕ = valueOf big Tag.samples hs in
+    let coding : ℕ = valueOf big Tag.compression hs in
+    let strips : ℕ = stripCount (valueOf big Tag.length hs) (valueOf big Tag.rowsPerStrip hs) in
+    firstOf
+    (breaks (not (eqb (countOf Tag.bits hs) samples) || not (all (eqb bits) (valuesOf big Tag.bits hs))) Tag.bits
+    ∷ breaks ((eqb coding 2 || eqb coding 32773) && (not (eqb bits 1) || not (eqb samples 1))) Tag.compression
+    ∷ breaks (not (eqb (countOf Tag.stripOffsets hs) strips)) Tag.stripOffsets
+    ∷ breaks (not (eqb (countOf Tag.stripByteCounts hs) strips)) Tag.stripByteCounts
+    ∷ [])

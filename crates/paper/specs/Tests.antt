@@ -1,0 +1,39 @@
+-- Tests over lists, and the values that a table allows. Assumes nothing.
+use Prim.Native.Nat.{ℕ}
+use mathlib.Core.Bool.{Bool, true, false, cond, _&&_, _||_}
+use mathlib.Core.List.{List, [], _∷_}
+use lib.Dec.{leb}
+
+unfoldable pub all : {A : Type 0} → (A → Bool) → List A → Bool
+all ok [] = true
+all ok (x ∷ xs) = ok x && all ok xs
+
+unfoldable pub some : {A : Type 0} → (A → Bool) → List A → Bool
+some is [] = false
+some is (x ∷ xs) = is x || some is xs
+
+unfoldable pub keep : {A : Type 0} → (A → Bool) → List A → List A
+keep is [] = []
+keep is (x ∷ xs) = cond (is x) (x ∷ keep is xs) (keep is xs)
+
+-- ---- which values are allowed: those in one of some ranges, or, with no range, any
+
+pub record Range : Type 0 where
+  pub low : ℕ
+  pub high : ℕ
+
+abbrev pub between : ℕ → ℕ → Range
+between a b = record { low = a; high = b }
+
+abbrev pub just : ℕ → Range
+just a = between a a
+
+abbrev pub free : List Range
+free = []
+
+abbrev pub inRange : ℕ → Range → Bool
+inRange v r = leb (r .low) v && leb v (r .high)
+
+unfoldable pub allows : List Range → ℕ → Bool
+allows [] v = true
+allows (r ∷ rs) v = some (inRange v) (r ∷ rs)
