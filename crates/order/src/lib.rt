@@ -5,6 +5,7 @@ ghost use mathlib.Core.Bool.{true, false};
 ghost use Prim.Native.Nat.{_+_, _*_, _≤_, _<_};
 ghost use lib.ListN.{length};
 ghost use Rattle.paper.specs.Bytes.{num};
+ghost use Rattle.order.specs.Width.{width};
 
 fn wide(b: u8) -> usize
     ensures { λ r. ⌜ (r ≡ b) × (r < 256) ⌝ }
@@ -96,4 +97,16 @@ pub fn bits(s: &[u8], big: bool, at: usize) -> u64
     ensures { λ r. ⌜ r ≡ num big 8 (now (s .entry)) at ⌝ }
 {
     if big { big8(s, at) } else { little8(s, at) }
+}
+
+// Number i of a run of LONGs (wide) or of SHORTs.
+pub fn element(s: &[u8], big: bool, wide: bool, i: usize) -> usize
+    requires { ⌜ width wide * i + width wide ≤ length (now s) ⌝ }
+    ensures { λ r. ⌜ (r ≡ num big (width wide) (now (s .entry)) (width wide * i)) × (r < 4294967296) ⌝ }
+{
+    if wide {
+        long(s, big, 4 * i)
+    } else {
+        short(s, big, 2 * i)
+    }
 }

@@ -31,24 +31,29 @@ valueParts tb hs = map (λ h. part (h .entry .start) (h .entry .len)) (keep (λ 
 unfoldable pub fullList : List Line → ℕ → ℕ → List Held → List Part
 fullList tb at c hs = part 0 8 ∷ part at 2 ∷ part at (dirLen c) ∷ valueParts tb hs
 
--- ---- the strips
+-- ---- the strips: a list of places, each with its index from 0
 
 pub record Strip : Type 0 where
   pub index : ℕ
   pub place : Part
 
-unfoldable pub stripAt : Bool → List Held → ℕ → Strip
-stripAt big hs i =
-    let a : ℕ = sizeOf (find Tag.stripOffsets hs .entry .typ) in
-    let b : ℕ = sizeOf (find Tag.stripByteCounts hs .entry .typ) in
-    record {
-      index = i;
-      place = part (num big a (bytesOf Tag.stripOffsets hs) (a * i)) (num big b (bytesOf Tag.stripByteCounts hs) (b * i));
-    }
+-- place i of a picture whose offsets and byte counts stand in two runs, in numbers of a and of b bytes
+unfoldable pub placeAt : Bool → ℕ → List ℕ → ℕ → List ℕ → ℕ → Strip
+placeAt big a offsets b counts i =
+    record { index = i; place = part (num big a offsets (a * i)) (num big b counts (b * i)) }
+
+unfoldable pub placesOf : Bool → ℕ → List ℕ → ℕ → List ℕ → ℕ → List Strip
+placesOf big a offsets b counts k = build (placeAt big a offsets b counts) 0 k
 
 -- rule 12 has seen that 273 and 279 have one count
 unfoldable pub strips : Bool → List Held → List Strip
-strips big hs = build (stripAt big hs) 0 (countOf Tag.stripOffsets hs)
+strips big hs =
+    placesOf big
+    (sizeOf (find Tag.stripOffsets hs .entry .typ))
+    (bytesOf Tag.stripOffsets hs)
+    (sizeOf (find Tag.stripByteCounts hs .entry .typ))
+    (bytesOf Tag.stripByteCounts hs)
+    (countOf Tag.stripOffsets hs)
 
 -- byte count 0, offset below 8, or an end past n: the sum is of whole numbers
 unfoldable pub badStrip : ℕ → Strip → Bool

@@ -1,0 +1,150 @@
+-- One lemma for each answer of the code, with the facts of its path as premises. Assumes nothing.
+use Prim.Native.Nat.{ℕ, zero, suc, _+_, _-_, _*_, _≤_, _<_, min, max, zero-le, suc-le-suc}
+use mathlib.Core.Path.{_≡_, refl, sym, ap, ap₂, _∙_, subst}
+use mathlib.Core.Bool.{Bool, true, false, cond, not, _&&_, _||_}
+use mathlib.Core.List.{List, [], _∷_}
+use native.Mathlib.Omega.{arith}
+use native.Mathlib.Nat.{sub-zero, mul-suc, mul-le-mul-left}
+use lib.Dec.{ltb, leb, eqb}
+use lib.ListN.{getD}
+use borrow.Author.Tests.{le-leb, lt-leb, eq-eqb, ne-eqb, eqb-false}
+use Rattle.paper.specs.Bytes.{num, build}
+use Rattle.paper.specs.Outcome.{firstBad, orElse, first, verdict}
+use Rattle.paper.specs.declared.Outcome.the-variants.{Kept as kept, Broken as broken}
+use Rattle.paper.specs.Tests.{some}
+use Rattle.paper.specs.Strips.{Part, part, Strip, shares, placeAt, placesOf, badStrip, touches, rule13, rule14}
+use Rattle.paper.proofs.Laws.{build-step, or-false}
+use Rattle.paper.proofs.Loops.{build-end}
+use Rattle.strips.specs.Gaps.{whole, rangeAt, rangesOf, narrowed, gapOf, gapAt, fromPlace, placesJudged}
+use Rattle.strips.specs.declared.Gap.{Gap}
+use Rattle.paper.specs.declared.Verdict.{Verdict}
+
+-- ---- narrow
+
+module _ (g : Gap) (s e from len : ℕ) where
+  pub narrow-empty : len ≡ 0 → g ≡ narrowed g s e from len
+  unfolding narrowed
+  narrow-empty z = rw (eq-eqb len 0 z)
+
+  pub narrow-before : (lo : ℕ) → (len ≡ 0 → ⊥) → from + len ≤ s → lo ≡ max (g .lo) (from + len)
+      → record { lo = lo; hi = g .hi; touch = g .touch } ≡ narrowed g s e from len
+  unfolding narrowed
+  narrow-before lo z a q = rw (ne-eqb len 0 z, le-leb (from + len) s a, q)
+
+  pub narrow-behind : (hi : ℕ) → (len ≡ 0 → ⊥) → s < from + len → e ≤ from → hi ≡ min (g .hi) from
+      → record { lo = g .lo; hi = hi; touch = g .touch } ≡ narrowed g s e from len
+  unfolding narrowed
+  narrow-behind hi z a b q = rw (ne-eqb len 0 z, lt-leb (from + len) s a, le-leb e from b, q)
+
+  pub narrow-touch : (len ≡ 0 → ⊥) → s < from + len → from < e → record { lo = g .lo; hi = g .hi; touch = true } ≡ narrowed g s e from len
+  unfolding narrowed
+  narrow-touch z a b = rw (ne-eqb len 0 z, lt-leb (from + len) s a, lt-leb e from b)
+
+-- ---- gap_of: the gap among the ranges from j on
+
+abbrev pub gapFrom : List ℕ → ℕ → ℕ → ℕ → ℕ → Gap
+gapFrom ranges m s e j = gapOf s e (build (rangeAt ranges) j (m - j))
+
+pub gap-start : (ranges : List ℕ) (m s e : ℕ) → whole ≡ gapFrom ranges m s e m
+unfolding gapOf
+gap-start ranges m s e = sym (ap (gapOf s e) (build-end (rangeAt ranges) m))
+
+pub gap-turn : (ranges : List ℕ) (m s e j : ℕ) (g : Gap) → 0 < j → j ≤ m → g ≡ gapFrom ranges m s e j
+    → narrowed g s e (getD ranges (2 * (j - 1)) 0) (getD ranges (2 * (j - 1) + 1) 0) ≡ gapFrom ranges m s e (j - 1)
+unfolding gapOf rangeAt
+gap-turn ranges m s e j g p q h =
+    let k : j - 1 + 1 ≡ j = omega arith in
+    let b : build (rangeAt ranges) (j - 1) (m - (j - 1)) ≡ rangeAt ranges (j - 1) ∷ build (rangeAt ranges) j (m - j) =
+    build-step (rangeAt ranges) (j - 1) m (omega arith) ∙ ap (λ (i : ℕ). rangeAt ranges (j - 1) ∷ build (rangeAt ranges) i (m - i)) k in
+    sym (ap (gapOf s e) b ∙ ap (λ (x : Gap). narrowed x s e (getD ranges (2 * (j - 1)) 0) (getD ranges (2 * (j - 1) + 1) 0)) (sym h))
+
+pub gap-end : (ranges : List ℕ) (m s e j : ℕ) (g : Gap) → j ≤ 0 → g ≡ gapFrom ranges m s e j → g ≡ gapOf s e (rangesOf ranges m)
+unfolding rangesOf
+gap-end ranges m s e j g z h =
+    let a : j ≡ 0 = omega arith in
+    h ∙ ap (λ (i : ℕ). gapOf s e (build (rangeAt ranges) i (m - i))) a ∙ ap (λ (i : ℕ). gapOf s e (build (rangeAt ranges) 0 i)) (sub-zero m)
+
+-- ---- gap_at
+
+pub at-hand : (g : Gap) (s e : ℕ) (ps : List Part) → leb (g .lo) s && leb e (g .hi) ≡ true → g ≡ gapAt g s e ps
+unfolding gapAt
+at-hand g s e ps h = rw h
+
+pub at-other : (g r : Gap) (s e : ℕ) (ps : List Part) → leb (g .lo) s && leb e (g .hi) ≡ false → r ≡ gapOf s e ps → r ≡ gapAt g s e ps
+unfolding gapAt
+at-other g r s e ps h q = rw h q
+
+-- ---- places: one turn over place i
+
+-- number i of k lies in a run that has room for k
+pub next-fits : (w k n i : ℕ) → w * k ≤ n → i < k → w * i + w ≤ n
+next-fits w k n i h l =
+    let m : w * suc i ≤ w * k = mul-le-mul-left w l in
+    omega (arith, mul-suc w i)
+
+module _ (big : Bool) (a : ℕ) (offsets : List ℕ) (b : ℕ) (counts : List ℕ) (k n : ℕ) where
+  abbrev pub From : ℕ → List Strip
+  From i = fromPlace big a offsets b counts i k
+
+  -- rule 13 at place i, as code tests it
+  abbrev pub Bad : ℕ → Bool
+  Bad i =
+      eqb (num big b counts (b * i)) 0
+      || (ltb (num big a offsets (a * i)) 8 || ltb n (num big a offsets (a * i) + num big b counts (b * i)))
+
+  from-step : (i : ℕ) → i < k → From i ≡ placeAt big a offsets b counts i ∷ From (i + 1)
+  unfolding fromPlace
+  from-step i l = build-step (placeAt big a offsets b counts) i k l
+
+  pub from-start : placesOf big a offsets b counts k ≡ From 0
+  unfolding fromPlace placesOf
+  from-start = ap (build (placeAt big a offsets b counts) 0) (sym (sub-zero k))
+
+  pub from-end : (i : ℕ) → i ≤ k → k ≤ i → From i ≡ []
+  unfolding fromPlace
+  from-end i l m = let e : i ≡ k = omega arith in rw e (build-end (placeAt big a offsets b counts) k)
+
+  pub bad-here : (i : ℕ) → i < k → Bad i ≡ true → rule13 n (From i) ≡ broken i
+  unfolding rule13 firstBad badStrip placeAt
+  bad-here i l h = ap (rule13 n) (from-step i l) ∙ rw h
+
+  pub good-here : (i : ℕ) → i < k → Bad i ≡ false → rule13 n (From i) ≡ rule13 n (From (i + 1))
+  unfolding rule13 firstBad badStrip placeAt
+  good-here i l h = ap (rule13 n) (from-step i l) ∙ rw h
+
+  abbrev Shares : List Part → ℕ → Bool
+  Shares ps i = some (shares (part (num big a offsets (a * i)) (num big b counts (b * i)))) ps
+
+  pub clash-here : (ps : List Part) (i : ℕ) → i < k → Shares ps i ≡ true → rule14 ps (From i) ≡ broken i
+  unfolding rule14 firstBad touches placeAt
+  clash-here ps i l h = ap (rule14 ps) (from-step i l) ∙ rw h
+
+  pub free-here : (ps : List Part) (i : ℕ) → i < k → Shares ps i ≡ false → rule14 ps (From i) ≡ rule14 ps (From (i + 1))
+  unfolding rule14 firstBad touches placeAt
+  free-here ps i l h = ap (rule14 ps) (from-step i l) ∙ rw h
+
+  -- a place that rule 13 lets pass has bytes
+  pub some-bytes : (i : ℕ) → Bad i ≡ false → 0 < num big b counts (b * i)
+  some-bytes i h = pos (num big b counts (b * i)) (eqb-false _ _ (or-false (eqb (num big b counts (b * i)) 0) _ h .0))
+    where
+      pos : (x : ℕ) → (x ≡ 0 → ⊥) → 0 < x
+      pos zero z = absurd (z refl)
+      pos (suc x) z = suc-le-suc zero-le
+
+-- ---- the answers of judge_places, by the outcomes of the two rules
+
+pub answer-13 : (n : ℕ) (ps : List Part) (ss : List Strip) (i : ℕ) → rule13 n ss ≡ broken i → verdict 13 i ≡ placesJudged n ps ss
+unfolding placesJudged first
+answer-13 n ps ss i h = rw h
+
+pub answer-14 : (n : ℕ) (ps : List Part) (ss : List Strip) (i : ℕ) (v : Verdict) → rule14 ps ss ≡ broken i → v ≡ orElse 13 (rule13 n ss) (verdict 14 i) → v ≡ placesJudged n ps ss
+unfolding placesJudged first
+answer-14 n ps ss i v h e = rw h e
+
+pub answer-0 : (n : ℕ) (ps : List Part) (ss : List Strip) → rule13 n ss ≡ kept → rule14 ps ss ≡ kept → verdict 0 0 ≡ placesJudged n ps ss
+unfolding placesJudged first
+answer-0 n ps ss h e = rw (h, e)
+
+pub rules-none : (n : ℕ) (ps : List Part) → (rule13 n [] ≡ kept) × (rule14 ps [] ≡ kept)
+unfolding rule13 rule14 firstBad
+rules-none n ps = (refl, refl)

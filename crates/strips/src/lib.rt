@@ -1,0 +1,192 @@
+// Where the places of a picture may lie: rules 13 and 14 in one pass, each offset and byte count fetched once. The places are any two runs of
+// numbers, the reading list is any run of ranges, so that every kind of picture is judged by this one pass.
+ghost use mathlib.Core.Path.{_≡_};
+ghost use mathlib.Core.Bool.{_||_};
+ghost use Prim.Native.Nat.{_+_, _*_, _≤_, _<_, max, min};
+ghost use lib.Dec.{ltb, eqb};
+ghost use lib.ListN.{length};
+ghost use Rattle.order.specs.Width.{width};
+ghost use Rattle.paper.specs.Outcome.{orElse, verdict};
+ghost use Rattle.paper.specs.Strips.{placesOf, rule13};
+ghost use Rattle.strips.specs.Gaps.{Low, fromPlace, rangesOf, narrowed, gapOf, gapAt, placesJudged};
+use paper::Verdict;
+
+// A gap of the reading list: no byte from lo up to hi is on it. `touch` says that the place which was looked for shares a byte with the list.
+pub struct Gap {
+    pub lo: usize,
+    pub hi: usize,
+    pub touch: bool,
+}
+
+// Rule 13 at one place.
+fn is_bad(start: usize, len: usize, n: usize) -> bool
+    requires { ⌜ (start < 4294967296) × (len < 4294967296) ⌝ }
+    ensures { λ r. ⌜ r ≡ eqb len 0 || (ltb start 8 || ltb n (start + len)) ⌝ }
+{
+    (len == 0) | ((start < 8) | (n < start + len))
+}
+
+fn larger(a: usize, b: usize) -> usize
+    ensures { λ r. ⌜ r ≡ max a b ⌝ }
+{
+    if a < b {
+        return b;
+    }
+    a
+}
+
+fn smaller(a: usize, b: usize) -> usize
+    ensures { λ r. ⌜ r ≡ min a b ⌝ }
+{
+    if a < b {
+        return a;
+    }
+    b
+}
+
+// The gap around a place, from start up to end, with one range more on the list.
+fn narrow(g: Gap, start: usize, end: usize, from: usize, len: usize) -> Gap
+    requires { ⌜ (from < 68719476736) × (len < 68719476736) ⌝ }
+    ensures { λ r. ⌜ r ≡ narrowed g start end from len ⌝ }
+{
+    if len == 0 {
+        return g;
+    }
+    let to = from + len;
+    if to <= start {
+        return Gap {
+            lo: larger(g.lo, to),
+            hi: g.hi,
+            touch: g.touch,
+        };
+    }
+    if end <= from {
+        return Gap {
+            lo: g.lo,
+            hi: smaller(g.hi, from),
+            touch: g.touch,
+        };
+    }
+    Gap {
+        lo: g.lo,
+        hi: g.hi,
+        touch: true,
+    }
+}
+
+// The gap around a place, among m ranges that each have a start and a length.
+fn gap_of(ranges: &[usize], m: usize, start: usize, end: usize) -> Gap
+    requires { ⌜ (2 * m ≤ length (now ranges)) × Low (now ranges) ⌝ }
+    ensures { λ r. ⌜ r ≡ gapOf start end (rangesOf (now (ranges .entry)) m) ⌝ }
+{
+    let mut g = Gap {
+        lo: 0,
+        hi: 4294967295,
+        touch: false,
+    };
+    let mut j = m;
+    while 0 < j {
+        j -= 1;
+        let from = ranges[2 * j];
+        let len = ranges[2 * j + 1];
+        g = narrow(g, start, end, from, len);
+    }
+    g
+}
+
+// The gap in hand where the place lies in it, and else the one around it.
+fn gap_at(g: Gap, ranges: &[usize], m: usize, start: usize, end: usize) -> Gap
+    requires { ⌜ (2 * m ≤ length (now ranges)) × Low (now ranges) ⌝ }
+    ensures { λ r. ⌜ r ≡ gapAt g start end (rangesOf (now (ranges .entry)) m) ⌝ }
+{
+    if (g.lo <= start) & (end <= g.hi) {
+        return g;
+    }
+    gap_of(ranges, m, start, end)
+}
+
+// Rule 13 from a place on, where an earlier place breaks rule 14 at `clash`.
+fn after_clash(
+    offsets: &[u8],
+    wideoffsets: bool,
+    counts: &[u8],
+    widecounts: bool,
+    big: bool,
+    from: usize,
+    k: usize,
+    n: usize,
+    clash: u32,
+) -> Verdict
+    requires { ⌜ (from ≤ k) × (k < 4294967296) × (width wideoffsets * k ≤ length (now offsets)) × (width widecounts * k ≤ length (now counts)) ⌝ }
+    ensures { λ r. ⌜ r ≡ orElse 13 (rule13 n (fromPlace big (width wideoffsets) (now (offsets .entry)) (width widecounts) (now (counts .entry)) from k)) (verdict 14 clash) ⌝ }
+{
+    let mut j = from;
+    while j < k {
+        let start = order::element(offsets, big, wideoffsets, j);
+        let len = order::element(counts, big, widecounts, j);
+        if is_bad(start, len, n) {
+            return Verdict {
+                number: 13,
+                place: j as u32,
+            };
+        }
+        j += 1;
+    }
+    Verdict {
+        number: 14,
+        place: clash,
+    }
+}
+
+// Rules 13 and 14 over k places: their offsets and byte counts are LONGs (wide) or SHORTs in two runs, and the reading list is m ranges.
+pub fn judge_places(
+    offsets: &[u8],
+    wideoffsets: bool,
+    counts: &[u8],
+    widecounts: bool,
+    big: bool,
+    k: usize,
+    n: usize,
+    ranges: &[usize],
+    m: usize,
+) -> Verdict
+    requires { ⌜ (k < 4294967296) × (width wideoffsets * k ≤ length (now offsets)) × (width widecounts * k ≤ length (now counts)) × (2 * m ≤ length (now ranges)) × Low (now ranges) ⌝ }
+    ensures { λ r. ⌜ r ≡ placesJudged n (rangesOf (now (ranges .entry)) m) (placesOf big (width wideoffsets) (now (offsets .entry)) (width widecounts) (now (counts .entry)) k) ⌝ }
+{
+    let mut g = Gap {
+        lo: 0,
+        hi: 0,
+        touch: false,
+    };
+    let mut i = 0;
+    while i < k {
+        let start = order::element(offsets, big, wideoffsets, i);
+        let len = order::element(counts, big, widecounts, i);
+        if is_bad(start, len, n) {
+            return Verdict {
+                number: 13,
+                place: i as u32,
+            };
+        }
+        let next = gap_at(g, ranges, m, start, start + len);
+        if next.touch {
+            return after_clash(
+                offsets,
+                wideoffsets,
+                counts,
+                widecounts,
+                big,
+                i + 1,
+                k,
+                n,
+                i as u32,
+            );
+        }
+        g = next;
+        i += 1;
+    }
+    Verdict {
+        number: 0,
+        place: 0,
+    }
+}
