@@ -12,7 +12,7 @@ use Rattle.paper.specs.Bytes.{num, build, elems}
 use Rattle.paper.specs.Outcome.{Outcome, kept, broken, firstBad, ascending, ascendingFrom}
 use Rattle.paper.specs.Layout.{entryAt, entryOf, entries, rule6}
 use Rattle.paper.specs.Tests.{all, some, keep}
-use Rattle.paper.specs.Tags.{Line, Held, hold, find, absent, listed}
+use Rattle.paper.specs.Tags.{Line, Held, hold, find, findEntry, absent, listed}
 use Rattle.paper.specs.Strips.{Part, part, valueParts}
 use Rattle.paper.proofs.Laws.{build-step}
 use Rattle.paper.specs.declared.Entry.{Entry}
@@ -69,11 +69,7 @@ pub rule6-tags : (big : Bool) (at c : ℕ) (dir : List ℕ) → rule6 (entries b
 unfolding rule6 entries entryOf
 rule6-tags big at c dir = ap ascending (map-build (λ (e : Entry). e .tag) (entryAt big at dir) 0 c)
 
--- the entry of a tag
-unfoldable pub findEntry : ℕ → List Entry → Entry
-findEntry t [] = absent .entry
-findEntry t (e ∷ es) = cond (eqb (e .tag) t) e (findEntry t es)
-
+-- the entry of a tag, without its bytes
 pub find-entry : (tb : List Line) (f : List ℕ) (t : ℕ) (es : List Entry) → find t (map (hold tb f) es) .entry ≡ findEntry t es
 unfolding find findEntry hold
 find-entry tb f t [] = refl

@@ -1,0 +1,135 @@
+-- One turn of the pass over the key entries, from the last to the first: what is known of the entries from i on, and what one entry more in
+-- front makes of it. Assumes nothing.
+use Prim.Native.Nat.{ℕ, _+_, _-_, _<_, _≤_}
+use mathlib.Core.Path.{_≡_, refl, sym, ap, _∙_}
+use mathlib.Core.Bool.{Bool, true, false, cond, not}
+use mathlib.Core.List.{List, [], _∷_, map}
+use native.Mathlib.Omega.{arith}
+use native.Mathlib.Nat.{sub-zero}
+use lib.Dec.{eqb, leb}
+use lib.ListN.{length, set}
+use lib.Seq.{set-out}
+use borrow.Author.Tests.{lt-ltb, le-ltb, lt-leb, leb-true, leb-false}
+use Rattle.paper.specs.Bytes.{build}
+use Rattle.paper.specs.Outcome.{ascending, ascendingFrom, firstBad, first}
+use Rattle.paper.specs.Tests.{all}
+use Rattle.paper.specs.Key
+use Rattle.paper.specs.Keys.{Runs, short, keyAt, room, rightPlace, misplaced, rule16, rule17, keyValue}
+use Rattle.paper.specs.declared.KeyEntry.{KeyEntry}
+use Rattle.paper.specs.declared.Outcome.{Outcome}
+use Rattle.paper.specs.declared.Outcome.the-variants.{Kept as kept, Broken as broken}
+use Rattle.paper.proofs.Laws.{build-step}
+use Rattle.paper.proofs.Loops.{build-end}
+use Rattle.keys.specs.Pass.{runs, judged, entryRules, entriesJudged, none, nextKey, held, askedKeys, indexOf, finished}
+use Rattle.keys.proofs.Store.{set-index}
+use Rattle.keys.proofs.Numbers.{fits, needed-is, allowed-is, held-is}
+
+-- ---- what is known of the entries ks, and of one more
+
+pub record Seen (r : Runs) (ks : List KeyEntry) (sixteen seventeen : Outcome) (next : ℕ) (found : List ℕ) : Type 0 where
+  pub rises : sixteen ≡ rule16 ks
+  pub placed : seventeen ≡ rule17 r ks
+  pub after : next ≡ nextKey ks
+  pub numbers : found ≡ map (λ k. held k ks) askedKeys
+  pub small : all fits ks ≡ true
+
+-- rule 16 with one entry in front
+rise : (e : KeyEntry) (es : List KeyEntry) → e .key < none
+    → cond (leb (nextKey es) (e .key)) (broken (nextKey es)) (rule16 es) ≡ rule16 (e ∷ es)
+unfolding rule16 ascending ascendingFrom nextKey
+rise e [] h = rw (lt-leb none (e .key) h)
+rise e (x ∷ xs) h = go (leb (x .key) (e .key)) refl
+  where
+    go : (b : Bool) → leb (x .key) (e .key) ≡ b
+        → cond (leb (nextKey (x ∷ xs)) (e .key)) (broken (nextKey (x ∷ xs))) (rule16 (x ∷ xs)) ≡ rule16 (e ∷ x ∷ xs)
+    go true p = rw (p, le-ltb (e .key) (x .key) (leb-true (x .key) (e .key) p))
+    go false p = rw (p, lt-ltb (e .key) (x .key) (leb-false (x .key) (e .key) p))
+
+module _ (r : Runs) where
+  pub none-seen : Seen r [] kept kept none (none ∷ none ∷ none ∷ none ∷ none ∷ none ∷ none ∷ [])
+  unfolding rule16 ascending rule17 firstBad nextKey held all
+  none-seen = record { rises = refl; placed = refl; after = refl; numbers = refl; small = refl }
+
+  module _ (es : List KeyEntry) (a b : Outcome) (n : ℕ) (f : List ℕ) (seen : Seen r es a b n f) (e : KeyEntry) (low : e .key < 65536) (low′ : e .index < 65536) where
+    rises : cond (leb n (e .key)) (broken n) a ≡ rule16 (e ∷ es)
+    rises = rw (seen .after, seen .rises) (rise e es low)
+
+    placed : cond (misplaced r e) (broken (e .key)) b ≡ rule17 r (e ∷ es)
+    unfolding rule17 firstBad
+    placed = rw (seen .placed)
+
+    numbers : set f (indexOf (e .key) askedKeys) (e .index) ≡ map (λ k. held k (e ∷ es)) askedKeys
+    unfolding held
+    numbers = rw (seen .numbers) (set-index (e .key) (e .index) (λ k. held k es) askedKeys refl)
+
+    small : all fits (e ∷ es) ≡ true
+    unfolding all
+    small = rw (lt-ltb (e .index) none low′) (seen .small)
+
+    pub seen-in : Seen r (e ∷ es) (cond (leb n (e .key)) (broken n) a) (cond (misplaced r e) (broken (e .key)) b) (e .key)
+        (set f (indexOf (e .key) askedKeys) (e .index))
+    unfolding nextKey
+    seen-in = record { rises = rises; placed = placed; after = refl; numbers = numbers; small = small }
+
+    -- one that is not asked for
+    pub seen-out : 7 ≤ indexOf (e .key) askedKeys
+        → Seen r (e ∷ es) (cond (leb n (e .key)) (broken n) a) (cond (misplaced r e) (broken (e .key)) b) (e .key) f
+    unfolding nextKey
+    seen-out h =
+        let l : length f ≤ indexOf (e .key) askedKeys = rw (seen .numbers) h in
+        record { rises = rises; placed = placed; after = refl; numbers = sym (set-out f (indexOf (e .key) askedKeys) (e .index) l) ∙ numbers; small = small }
+
+  -- the answer once all are seen
+  pub finished-is : (ks : List KeyEntry) (a b : Outcome) (n : ℕ) (f : List ℕ) (k : ℕ) → Seen r ks a b n f
+      → finished a b f k ≡ judged (first (entryRules r ks)) k (eqb (keyValue Key.rasterType ks) 2)
+  unfolding finished
+  finished-is ks a b n f k s =
+      rw (s .rises, s .placed, s .numbers, needed-is ks (s .small), allowed-is ks (s .small), held-is Key.rasterType 2 ks refl refl)
+
+-- ---- the entries of a directory, from i on
+
+abbrev pub rest : Runs → ℕ → ℕ → List KeyEntry
+rest r c i = build (keyAt r) i (c - i)
+
+-- an entry is read out of the key directory alone
+pub entry-any : (big : Bool) (d x t : List ℕ) (i : ℕ) → keyAt (runs big d [] []) i ≡ keyAt (runs big d x t) i
+unfolding keyAt short
+entry-any big d x t i = refl
+
+pub rest-step : (big : Bool) (d x t : List ℕ) (c h : ℕ) (e : KeyEntry) → 0 < h → h ≤ c → e ≡ keyAt (runs big d [] []) (h - 1)
+    → rest (runs big d x t) c (h - 1) ≡ e ∷ rest (runs big d x t) c h
+rest-step big d x t c h e p q w =
+    let u : h - 1 + 1 ≡ h = omega arith in
+    let s = build-step (keyAt (runs big d x t)) (h - 1) c (omega arith) in
+    rw u at s ∙ ap (λ (y : KeyEntry). y ∷ rest (runs big d x t) c h) (sym (w ∙ entry-any big d x t (h - 1)))
+
+pub misplaced-any : (big : Bool) (d x t : List ℕ) (e : KeyEntry) → misplaced (runs false d x t) e ≡ misplaced (runs big d x t) e
+unfolding misplaced rightPlace room
+misplaced-any big d x t e = refl
+
+-- ---- the loop: before its first turn, one turn, and after its last
+
+pub seen-start : (r : Runs) (c : ℕ) → Seen r (rest r c c) kept kept none (none ∷ none ∷ none ∷ none ∷ none ∷ none ∷ none ∷ [])
+seen-start r c = rw (build-end (keyAt r) c) (none-seen r)
+
+module _ (big : Bool) (d x t : List ℕ) (c h : ℕ) (a b a′ b′ : Outcome) (n : ℕ) (f : List ℕ) (e : KeyEntry) (m : Bool) (s : ℕ)
+    (seen : Seen (runs big d x t) (rest (runs big d x t) c h) a b n f) (some : 0 < h) (few : h ≤ c)
+    (is-e : e ≡ keyAt (runs big d [] []) (h - 1)) (low : e .key < 65536) (low′ : e .index < 65536)
+    (is-a : a′ ≡ cond (leb n (e .key)) (broken n) a) (is-m : m ≡ misplaced (runs false d x t) e)
+    (is-b : b′ ≡ cond m (broken (e .key)) b) (is-s : s ≡ indexOf (e .key) askedKeys) where
+  is-b′ : b′ ≡ cond (misplaced (runs big d x t) e) (broken (e .key)) b
+  is-b′ = is-b ∙ ap (λ (y : Bool). cond y (broken (e .key)) b) (is-m ∙ misplaced-any big d x t e)
+
+  pub turn-in : Seen (runs big d x t) (rest (runs big d x t) c (h - 1)) a′ b′ (e .key) (set f s (e .index))
+  turn-in = rw (rest-step big d x t c h e some few is-e, is-a, is-b′, is-s) (seen-in (runs big d x t) (rest (runs big d x t) c h) a b n f seen e low low′)
+
+  pub turn-out : 7 ≤ s → Seen (runs big d x t) (rest (runs big d x t) c (h - 1)) a′ b′ (e .key) f
+  turn-out q =
+      let o : 7 ≤ indexOf (e .key) askedKeys = rw is-s at q in
+      rw (rest-step big d x t c h e some few is-e, is-a, is-b′) (seen-out (runs big d x t) (rest (runs big d x t) c h) a b n f seen e low low′ o)
+
+pub pass-done : (r : Runs) (c i : ℕ) (a b : Outcome) (n : ℕ) (f : List ℕ) → i ≡ 0 → Seen r (rest r c i) a b n f → finished a b f c ≡ entriesJudged r c
+unfolding entriesJudged
+pass-done r c i a b n f z seen =
+    let s : Seen r (build (keyAt r) 0 c) a b n f = rw (z, sub-zero) at seen in
+    finished-is r (build (keyAt r) 0 c) a b n f c s

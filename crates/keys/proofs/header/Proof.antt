@@ -1,0 +1,48 @@
+-- `header` is rule 15: too few bytes for a header, or the test on its four numbers (`Head`).
+-- Assumes nothing.
+use mathlib.Core.Bool.{true, false}
+use Rattle.keys.proofs.Head.{short-head, head-test}
+use borrow.Author.Needs.{needs}
+use Rattle.keys.proofs.header.Statement.{statement}
+use Rattle.keys.proofs.header.Tie as tie
+
+returns : tie.Need-returns
+returns c = short-head (c .before .before .args .big) (c .before .before .args .directory .now) (c .if1 .taken)
+
+short-requires : tie.Need-short-requires
+short-requires c κs = search needs
+
+short-requires-2 : tie.Need-short-requires-2
+short-requires-2 c κs = search needs
+
+short-requires-3 : tie.Need-short-requires-3
+short-requires-3 c κs = search needs
+
+short-requires-4 : tie.Need-short-requires-4
+short-requires-4 c κs = search needs
+
+mul-many : tie.Need-mul-many
+mul-many c = search needs
+
+add-many : tie.Need-add-many
+add-many c = search needs
+
+returns-2 : tie.Need-returns-2
+returns-2 c = head-test (c .before .before .before .before .before .before .before .args .big) (c .before .before .before .before .before .before .before .args .directory .now) true _ _ _ _ (c .before .before .before .before .short .ensures .0) (c .before .before .before .short2 .ensures .0) (c .before .before .short3 .ensures .0) (c .before .short4 .ensures .0) (c .if2 .taken)
+
+returns-3 : tie.Need-returns-3
+returns-3 c = head-test (c .before .before .before .before .before .before .before .args .big) (c .before .before .before .before .before .before .before .args .directory .now) false _ _ _ _ (c .before .before .before .before .short .ensures .0) (c .before .before .before .short2 .ensures .0) (c .before .before .short3 .ensures .0) (c .before .short4 .ensures .0) (c .if2 .left)
+
+pub header-spec : {M : Type 1} → statement M
+header-spec =
+    tie.close
+    (tie.spec
+    returns
+    short-requires
+    short-requires-2
+    short-requires-3
+    short-requires-4
+    mul-many
+    add-many
+    returns-2
+    returns-3)

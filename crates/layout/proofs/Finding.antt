@@ -1,0 +1,128 @@
+-- The places of the table's tags: a store at a tag's slot, and what a place says of the entry that is found. Assumes nothing.
+use Prim.Native.Nat.{ℕ, zero, suc, _+_, _-_, _≤_, _<_, zero-le}
+use mathlib.Core.Path.{_≡_, refl, sym, ap, _∙_, subst}
+use mathlib.Core.Bool.{Bool, true, false, cond, not, _&&_}
+use mathlib.Core.List.{List, [], _∷_, map}
+use native.Mathlib.Nat.{not-suc-le-zero, le-of-suc-le-suc}
+use native.Mathlib.Omega.{arith}
+use native.Mathlib.Numerals.{add-one}
+use lib.Dec.{eqb}
+use lib.ListN.{length, getD, set}
+use borrow.Author.Tests.{eqb-true, ne-eqb, not-true}
+use Rattle.paper.specs.Bytes.{build}
+use Rattle.paper.specs.Layout.{entryAt, entries}
+use Rattle.paper.specs.Tags.{absent, table}
+use Rattle.paper.specs.declared.Entry.{Entry}
+use Rattle.paper.proofs.Laws.{and-eq}
+use Rattle.paper.specs.Tags.{findEntry}
+use Rattle.layout.specs.Finding.{tags, indexOf, placeFrom, placeIn, places, foundOf}
+
+-- ---- a store in a table
+
+abbrev pub notIn : ℕ → List ℕ → Bool
+notIn x [] = true
+notIn x (y ∷ ys) = not (eqb x y) && notIn x ys
+
+abbrev pub distinct : List ℕ → Bool
+distinct [] = true
+distinct (y ∷ ys) = notIn y ys && distinct ys
+
+unchanged : (x v : ℕ) (f : ℕ → ℕ) (ts : List ℕ) → notIn x ts ≡ true → map f ts ≡ map (λ t. cond (eqb x t) v (f t)) ts
+unchanged x v f [] h = refl
+unchanged x v f (t ∷ ts) h =
+    let b = and-eq (not (eqb x t)) (notIn x ts) h in
+    rw (not-true (eqb x t) (b .0)) (ap (λ (l : List ℕ). f t ∷ l) (unchanged x v f ts (b .1)))
+
+-- a store at the index of x in a table changes what stands for x, and nothing else
+pub set-index : (x v : ℕ) (f : ℕ → ℕ) (ts : List ℕ) → distinct ts ≡ true
+    → set (map f ts) (indexOf x ts) v ≡ map (λ t. cond (eqb x t) v (f t)) ts
+unfolding indexOf
+set-index x v f [] h = refl
+set-index x v f (t ∷ ts) h = go (eqb x t) refl (set-index x v f ts (and-eq (notIn t ts) (distinct ts) h .1))
+  where
+    go : (b : Bool) → eqb x t ≡ b → set (map f ts) (indexOf x ts) v ≡ map (λ (t : ℕ). cond (eqb x t) v (f t)) ts
+        → set (map f (t ∷ ts)) (indexOf x (t ∷ ts)) v ≡ map (λ (t : ℕ). cond (eqb x t) v (f t)) (t ∷ ts)
+    go true e ih =
+        rw e (ap (λ (l : List ℕ). v ∷ l) (unchanged x v f ts (rw (eqb-true x t e) (and-eq (notIn t ts) (distinct ts) h .0))))
+    go false e ih = rw e (ap (λ (l : List ℕ). f t ∷ l) ih)
+
+pub tags-distinct : distinct tags ≡ true
+unfolding tags table
+tags-distinct = refl
+
+-- ---- a place found
+
+-- entries g i, g (i + 1), .., k of them: the first with tag t, by its place q
+pub record Placed (t : ℕ) (g : ℕ → Entry) (i k q : ℕ) : Type 0 where
+  pub low : i < q
+  pub high : q ≤ i + k
+  pub entry : findEntry t (build g i k) ≡ g (q - 1)
+  pub tag : g (q - 1) .tag ≡ t
+
+placed-from : (t : ℕ) (g : ℕ → Entry) (i k : ℕ) → (placeFrom t i (build g i k) ≡ 0 → ⊥) → Placed t g i k (placeFrom t i (build g i k))
+unfolding placeFrom findEntry build
+placed-from t g i zero h = absurd (h refl)
+placed-from t g i (suc k) h = go (eqb (g i .tag) t) refl (placed-from t g (suc i) k)
+  where
+    go : (b : Bool) → eqb (g i .tag) t ≡ b → ((placeFrom t (suc i) (build g (suc i) k) ≡ 0 → ⊥) → Placed t g (suc i) k (placeFrom t (suc i) (build g (suc i) k)))
+        → Placed t g i (suc k) (placeFrom t i (build g i (suc k)))
+    go true e ih =
+        let w : i + 1 - 1 ≡ i = omega arith in
+        rw e record { low = omega arith; high = omega arith; entry = rw (e, w); tag = rw w (eqb-true _ _ e) }
+    go false e ih =
+        let w : i + 1 ≡ suc i = add-one i in
+        let p = ih (rw (e, w) at h) in
+        rw (e, w) record { low = omega (arith, p .low); high = omega (arith, p .high); entry = rw e (p .entry); tag = p .tag }
+
+placed-none : (t i : ℕ) (es : List Entry) → placeFrom t i es ≡ 0 → findEntry t es ≡ absent .entry
+unfolding placeFrom findEntry
+placed-none t i [] h = refl
+placed-none t i (e ∷ es) h = go (eqb (e .tag) t) refl (placed-none t (i + 1) es)
+  where
+    go : (b : Bool) → eqb (e .tag) t ≡ b → (placeFrom t (i + 1) es ≡ 0 → findEntry t es ≡ absent .entry) → findEntry t (e ∷ es) ≡ absent .entry
+    go true q ih = let z : i + 1 ≡ 0 = rw q at h in absurd (omega arith)
+    go false q ih = rw q (ih (rw q at h))
+
+getD-map : (f : ℕ → ℕ) (ts : List ℕ) (k : ℕ) → k < length ts → getD (map f ts) k 0 ≡ f (getD ts k 0)
+getD-map f [] k h = absurd (not-suc-le-zero h)
+getD-map f (t ∷ ts) zero h = refl
+getD-map f (t ∷ ts) (suc k) h = getD-map f ts k (le-of-suc-le-suc h)
+
+-- ---- for the functions that come after
+
+-- p is the place of tag t in a directory of c entries: `found` gives its entry, the absent one where p is 0, and else entry p - 1
+pub record Found (t : ℕ) (big : Bool) (at c : ℕ) (dir : List ℕ) (p : ℕ) : Type 0 where
+  pub within : p ≤ c
+  pub found : foundOf big at dir p ≡ findEntry t (entries big at c dir)
+  pub none : p ≡ 0 → findEntry t (entries big at c dir) ≡ absent .entry
+  pub entry : 0 < p → findEntry t (entries big at c dir) ≡ entryAt big at dir (p - 1)
+  pub tag : 0 < p → findEntry t (entries big at c dir) .tag ≡ t
+
+pub found-place : (t : ℕ) (big : Bool) (at c : ℕ) (dir : List ℕ) → Found t big at c dir (placeIn t (entries big at c dir))
+unfolding foundOf entries
+found-place t big at c dir = go (placeIn t (build (entryAt big at dir) 0 c)) refl
+  where
+    go : (p : ℕ) → placeIn t (build (entryAt big at dir) 0 c) ≡ p → Found t big at c dir p
+    go zero e =
+        let n : findEntry t (build (entryAt big at dir) 0 c) ≡ absent .entry = placed-none t 0 (build (entryAt big at dir) 0 c) e in
+        record { within = zero-le; found = sym n; none = λ z. n; entry = λ l. absurd (not-suc-le-zero l); tag = λ l. absurd (not-suc-le-zero l) }
+    go (suc p) e =
+        let s : placeIn t (build (entryAt big at dir) 0 c) ≡ 0 → ⊥ = λ z. omega arith in
+        let r : Placed t (entryAt big at dir) 0 c (suc p) = subst (Placed t (entryAt big at dir) 0 c) e (placed-from t (entryAt big at dir) 0 c s) in
+        let z : suc p ≡ 0 → ⊥ = λ z. omega arith in
+        record {
+          within = omega (arith, r .high);
+          found = rw (ne-eqb (suc p) 0 z) (sym (r .entry));
+          none = λ y. absurd (z y);
+          entry = λ l. r .entry;
+          tag = λ l. ap (λ (x : Entry). x .tag) (r .entry) ∙ r .tag;
+        }
+
+-- of tag k of the table, in the places ps that a scan gave
+pub found-slot : {ps : List ℕ} {big : Bool} {at c : ℕ} {dir : List ℕ} (k : ℕ) → k < 17 → ps ≡ places (entries big at c dir)
+    → Found (getD tags k 0) big at c dir (getD ps k 0)
+unfolding places tags table
+found-slot {ps} {big} {at} {c} {dir} k h is =
+    subst (Found (getD tags k 0) big at c dir)
+    (sym (ap (λ (l : List ℕ). getD l k 0) is ∙ getD-map (λ (t : ℕ). placeIn t (entries big at c dir)) tags k h))
+    (found-place (getD tags k 0) big at c dir)

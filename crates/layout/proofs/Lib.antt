@@ -1,0 +1,6 @@
+-- The laws of this crate, file by file: what callers lean on is in Opening, Finding and Values. Assumes nothing.
+pub mod Sizes
+pub mod Opening
+pub mod Finding
+pub mod Turns
+pub mod Values

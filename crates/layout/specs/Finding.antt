@@ -1,0 +1,39 @@
+-- What one pass over a directory keeps: where a rule is broken, and where the tags of the table stand. Assumes nothing.
+use Prim.Native.Nat.{ℕ, suc, _+_, _-_}
+use mathlib.Core.Bool.{Bool, cond}
+use mathlib.Core.List.{List, [], _∷_, map}
+use lib.Dec.{eqb}
+use Rattle.paper.specs.Layout.{entryAt}
+use Rattle.paper.specs.Tags.{table, absent}
+use Rattle.paper.specs.declared.Entry.{Entry}
+use Rattle.paper.specs.declared.Outcome.{Outcome}
+use Rattle.paper.specs.declared.Outcome.the-variants.{Kept as kept, Broken as broken}
+
+-- what a number tells of a rule whose place is a tag: 65536, which no tag is, that it is kept
+unfoldable pub told : ℕ → Outcome
+told p = cond (eqb p 65536) kept (broken p)
+
+-- the tags of the table, in order
+unfoldable pub tags : List ℕ
+tags = map (λ l. l .tag) table
+
+-- the index of a number in a list, or the list's length
+unfoldable pub indexOf : ℕ → List ℕ → ℕ
+indexOf x [] = 0
+indexOf x (y ∷ ys) = cond (eqb x y) 0 (suc (indexOf x ys))
+
+-- one more than the index of the first entry with tag t, where the first of the list has index i; 0 where there is none
+unfoldable pub placeFrom : ℕ → ℕ → List Entry → ℕ
+placeFrom t i [] = 0
+placeFrom t i (e ∷ es) = cond (eqb (e .tag) t) (i + 1) (placeFrom t (i + 1) es)
+
+abbrev pub placeIn : ℕ → List Entry → ℕ
+placeIn t es = placeFrom t 0 es
+
+-- the place of each tag of the table
+unfoldable pub places : List Entry → List ℕ
+places es = map (λ t. placeIn t es) tags
+
+-- the entry of a place of a directory
+unfoldable pub foundOf : Bool → ℕ → List ℕ → ℕ → Entry
+foundOf big at dir p = cond (eqb p 0) (absent .entry) (entryAt big at dir (p - 1))
