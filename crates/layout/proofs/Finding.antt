@@ -15,7 +15,8 @@ use Rattle.paper.specs.Tags.{absent, table}
 use Rattle.paper.specs.declared.Entry.{Entry}
 use Rattle.paper.proofs.Laws.{and-eq}
 use Rattle.paper.specs.Tags.{findEntry}
-use Rattle.layout.specs.Finding.{tags, indexOf, placeFrom, placeIn, places, foundOf}
+use Rattle.layout.specs.Finding.{indexOf, placeFrom, placeIn, places, foundOf}
+use Rattle.layout.specs.Columns.{tags}
 
 -- ---- a store in a table
 

@@ -17,7 +17,8 @@ use Rattle.paper.specs.Layout.{entryAt, entries, badValue, rule6, rule7}
 use Rattle.paper.specs.Tags.{table}
 use Rattle.paper.proofs.Laws.{build-step}
 use Rattle.paper.proofs.Loops.{build-end}
-use Rattle.layout.specs.Finding.{told, tags, indexOf, placeFrom}
+use Rattle.layout.specs.Finding.{told, indexOf, placeFrom}
+use Rattle.layout.specs.Columns.{tags}
 use Rattle.layout.proofs.Finding.{set-index, tags-distinct}
 
 -- the first tag of some entries; where there are none, a number above every tag

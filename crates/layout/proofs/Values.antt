@@ -22,7 +22,8 @@ use Rattle.paper.proofs.Laws.{all-at}
 use Rattle.paper.specs.Tags.{findEntry}
 use Rattle.paper.proofs.Bounds.{entry-inside}
 use Rattle.paper.proofs.First.{kept-first}
-use Rattle.layout.specs.Finding.{tags, foundOf}
+use Rattle.layout.specs.Finding.{foundOf}
+use Rattle.layout.specs.Columns.{tags}
 
 -- where the verdict v of rules 6 to 8 is 0, rules 6 and 7 are kept
 zero-of : {v : Verdict} {w : Verdict} → v ≡ w → v .number ≡ 0 → w .number ≡ 0

@@ -4,7 +4,8 @@ use mathlib.Core.Bool.{Bool, cond}
 use mathlib.Core.List.{List, [], _∷_, map}
 use lib.Dec.{eqb}
 use Rattle.paper.specs.Layout.{entryAt}
-use Rattle.paper.specs.Tags.{table, absent}
+use Rattle.paper.specs.Tags.{absent}
+use Rattle.layout.specs.Columns.{tags}
 use Rattle.paper.specs.declared.Entry.{Entry}
 use Rattle.paper.specs.declared.Outcome.{Outcome}
 use Rattle.paper.specs.declared.Outcome.the-variants.{Kept as kept, Broken as broken}
@@ -12,10 +13,6 @@ use Rattle.paper.specs.declared.Outcome.the-variants.{Kept as kept, Broken as b
 -- what a number tells of a rule whose place is a tag: 65536, which no tag is, that it is kept
 unfoldable pub told : ℕ → Outcome
 told p = cond (eqb p 65536) kept (broken p)
-
--- the tags of the table, in order
-unfoldable pub tags : List ℕ
-tags = map (λ l. l .tag) table
 
 -- the index of a number in a list, or the list's length
 unfoldable pub indexOf : ℕ → List ℕ → ℕ

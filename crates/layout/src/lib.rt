@@ -10,7 +10,8 @@ ghost use Rattle.paper.specs.declared.Outcome.the-variants.{Kept as kept};
 ghost use Rattle.paper.specs.Layout.{odd, isBig, dirLen, rule1, rule2, sizeOf, entryOf, entries, badValue};
 ghost use Rattle.paper.specs.Judge.{dirRules};
 ghost use Rattle.layout.specs.Opening.{headedOf, countedOf, openedOf};
-ghost use Rattle.layout.specs.Finding.{told, tags, indexOf, places, foundOf};
+ghost use Rattle.layout.specs.Finding.{told, indexOf, places, foundOf};
+ghost use Rattle.layout.specs.Columns.{tags};
 use paper::Entry;
 use paper::Verdict;
 

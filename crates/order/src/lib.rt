@@ -65,14 +65,14 @@ fn big8(s: &[u8], at: usize) -> u64
     requires { ⌜ at + 8 ≤ length (now s) ⌝ }
     ensures { λ r. ⌜ r ≡ num true 8 (now (s .entry)) at ⌝ }
 {
-    wide64(s[at]) * 0x100_0000_0000_0000
-        + wide64(s[at + 1]) * 0x1_0000_0000_0000
-        + wide64(s[at + 2]) * 0x100_0000_0000
-        + wide64(s[at + 3]) * 0x1_0000_0000
-        + wide64(s[at + 4]) * 0x100_0000
-        + wide64(s[at + 5]) * 0x1_0000
+    wide64(s[at + 7])
         + wide64(s[at + 6]) * 0x100
-        + wide64(s[at + 7])
+        + wide64(s[at + 5]) * 0x1_0000
+        + wide64(s[at + 4]) * 0x100_0000
+        + wide64(s[at + 3]) * 0x1_0000_0000
+        + wide64(s[at + 2]) * 0x100_0000_0000
+        + wide64(s[at + 1]) * 0x1_0000_0000_0000
+        + wide64(s[at]) * 0x100_0000_0000_0000
 }
 
 // The SHORT at a place; `big` says which end comes first.

@@ -1,5 +1,6 @@
 -- `slot_of` gives each tag its index in the table, arm by arm, and 17 to any other tag. Assumes nothing.
-use Rattle.layout.specs.Finding.{tags, indexOf}
+use Rattle.layout.specs.Finding.{indexOf}
+use Rattle.layout.specs.Columns.{tags}
 use Rattle.paper.specs.Tags.{table}
 use borrow.Author.Tests.{ne-eqb}
 use Rattle.layout.proofs.slot_of.Statement.{statement}

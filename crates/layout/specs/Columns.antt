@@ -1,0 +1,36 @@
+-- What one pass over a directory finds of the table's tags: a column of numbers for each field of an entry, in the table's order; and the
+-- full reading list as two columns. Assumes nothing.
+use Prim.Native.Nat.{ℕ}
+use mathlib.Core.Bool.{Bool, cond}
+use mathlib.Core.List.{List, [], _∷_, _++_, map}
+use lib.Dec.{eqb}
+use Rattle.paper.specs.Layout.{dirLen}
+use Rattle.paper.specs.Tags.{table}
+use Rattle.paper.specs.declared.Entry.{Entry}
+
+-- the tags of the table, in order
+unfoldable pub tags : List ℕ
+tags = map (λ l. l .tag) table
+
+-- a field of the first entry with tag t; 0 where there is none
+unfoldable pub fieldOf : (Entry → ℕ) → ℕ → List Entry → ℕ
+fieldOf field t [] = 0
+fieldOf field t (e ∷ es) = cond (eqb (e .tag) t) (field e) (fieldOf field t es)
+
+-- of each tag of the table
+unfoldable pub column : (Entry → ℕ) → List Entry → List ℕ
+column field es = map (λ t. fieldOf field t es) tags
+
+unfoldable pub typsOf : List Entry → List ℕ
+typsOf es = column (λ e. e .typ) es
+
+unfoldable pub countsOf : List Entry → List ℕ
+countsOf es = column (λ e. e .count) es
+
+-- the starts of the values of the table's tags, of the head and of the directory
+unfoldable pub startsOf : ℕ → List Entry → List ℕ
+startsOf at es = column (λ e. e .start) es ++ (0 ∷ at ∷ [])
+
+-- and their lengths
+unfoldable pub lensOf : ℕ → List Entry → List ℕ
+lensOf c es = column (λ e. e .len) es ++ (8 ∷ dirLen c ∷ [])

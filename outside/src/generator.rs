@@ -1,0 +1,39 @@
+//! The seeded generator of test files: the same seed gives the same files on
+//! every machine.
+//!
+//! `plan` describes a file and lays it out to bytes; `keyplan` does so for the
+//! keys; `valid` draws files that keep every rule; `damage` spoils them at
+//! random; `targeted` breaks each clause at its exact boundary and states the
+//! verdict by construction.
+
+pub mod damage;
+pub mod keyplan;
+pub mod plan;
+pub mod prng;
+pub mod targeted;
+pub mod valid;
+
+pub use targeted::{targeted, Call, Case};
+
+use prng::Random;
+
+/// A file of the random mix. One that is not damaged keeps every rule.
+#[derive(Clone, Debug)]
+pub struct Sample {
+    pub file: Vec<u8>,
+    pub damaged: bool,
+}
+
+/// File number `number` of the mix with this seed; every second is damaged.
+pub fn sample(seed: u64, number: u64) -> Sample {
+    let mut random = Random::new(seed).branch(number);
+    let damaged = number % 2 == 1;
+    let laid = valid::file(&mut random);
+    let file = if damaged { damage::damage(laid, &mut random) } else { laid.bytes };
+    Sample { file, damaged }
+}
+
+/// The first `count` files of the mix with this seed.
+pub fn random(seed: u64, count: u64) -> Vec<Sample> {
+    (0..count).map(|number| sample(seed, number)).collect()
+}

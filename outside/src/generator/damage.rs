@@ -1,0 +1,141 @@
+//! Random damage: bytes flipped, files cut, fields overwritten with numbers
+//! near a boundary. Nothing is said about the verdict; two readers compare.
+
+use super::plan::{Laid, Spot};
+use super::prng::Random;
+
+/// The bytes of the file after one to three damages.
+pub fn damage(mut laid: Laid, random: &mut Random) -> Vec<u8> {
+    for _ in 0..random.pick(&[1, 1, 1, 2, 3]) {
+        match random.below(12) {
+            0 => flip(&mut laid, random),
+            1 | 2 => entry_field(&mut laid, random),
+            3 | 4 => short_value(&mut laid, random),
+            5 => double_value(&mut laid, random),
+            6 | 7 => key_field(&mut laid, random),
+            8 => strip_field(&mut laid, random),
+            9 => swap_entries(&mut laid, random),
+            10 => head_field(&mut laid, random),
+            _ => resize(&mut laid, random),
+        }
+        if laid.n() < laid.directory + 6 + 12 * laid.spots.len() {
+            break;
+        }
+    }
+    laid.bytes
+}
+
+/// The spots whose value still lies in the file.
+fn whole_spots(laid: &Laid) -> Vec<Spot> {
+    laid.spots.iter().filter(|spot| spot.value + spot.size <= laid.n()).cloned().collect()
+}
+
+/// A number that lies near something a rule compares with.
+fn near(random: &mut Random, n: usize) -> u32 {
+    let n = n as u32;
+    let choices = [0, 1, 2, 3, 4, 6, 7, 8, 9, 12, 13, 42, 256, 1024, 32773, 65_535, 65_536];
+    match random.below(4) {
+        0 => random.pick(&choices),
+        1 => random.pick(&[n - 2, n - 1, n, n + 1, n + 2, u32::MAX - 1, u32::MAX, 1 << 31]),
+        2 => random.below(u64::from(n) + 2) as u32,
+        _ => random.draw() as u32,
+    }
+}
+
+fn flip(laid: &mut Laid, random: &mut Random) {
+    for _ in 0..random.within(1, 4) {
+        let at = random.below(laid.n() as u64) as usize;
+        laid.bytes[at] ^= 1 << random.below(8);
+    }
+}
+
+fn entry_field(laid: &mut Laid, random: &mut Random) {
+    let spot = random.pick(&laid.spots);
+    let number = near(random, laid.n());
+    match random.below(4) {
+        0 => laid.put_short(spot.entry, number as u16),
+        1 => laid.put_short(spot.entry + 2, random.below(15) as u16),
+        2 => laid.put_long(spot.entry + 4, number),
+        _ => laid.put_long(spot.entry + 8, number),
+    }
+}
+
+/// Overwrites a number of a value that rules 11 and 12 look at.
+fn short_value(laid: &mut Laid, random: &mut Random) {
+    let tested = [256, 257, 258, 259, 262, 277, 278, 284];
+    let mut spots = whole_spots(laid);
+    spots.retain(|spot| tested.contains(&spot.tag));
+    if spots.is_empty() {
+        return;
+    }
+    let spot = random.pick(&spots);
+    let drawn = near(random, laid.n()) as u16;
+    let number = random.pick(&[0, 1, 2, 3, 4, 5, 8, 9, 16, 32, 33, 32773, drawn]);
+    laid.put_short(spot.value + 2 * random.below(spot.size as u64 / 2) as usize, number);
+}
+
+fn double_value(laid: &mut Laid, random: &mut Random) {
+    let mut spots = whole_spots(laid);
+    spots.retain(|spot| [33550, 33922, 34264].contains(&spot.tag));
+    if spots.is_empty() {
+        return;
+    }
+    let spot = random.pick(&spots);
+    let (nan, infinite) = (f64::from_bits(0x7FF8_0000_0000_0001), f64::INFINITY);
+    let double = random.pick(&[0.0, -0.0, 1.0, -1.0, nan, infinite, f64::MAX, -f64::MAX, 5e-324]);
+    let element = random.below(spot.size as u64 / 8) as usize;
+    laid.put_double(spot.value + 8 * element, double.to_bits());
+}
+
+/// Overwrites a number of the key directory, often one of an entry.
+fn key_field(laid: &mut Laid, random: &mut Random) {
+    let Some(spot) = whole_spots(laid).into_iter().find(|spot| spot.tag == 34735) else { return };
+    let place = random.below(spot.size as u64 / 2) as usize;
+    let choices =
+        [0, 1, 2, 3, 1024, 1025, 2048, 3072, 4326, 32600, 32662, 34735, 34736, 34737, 65_535];
+    let number = match random.below(3) {
+        0 => random.draw() as u16,
+        _ => random.pick(&choices),
+    };
+    laid.put_short(spot.value + 2 * place, number);
+}
+
+fn strip_field(laid: &mut Laid, random: &mut Random) {
+    let tag = random.pick(&[273, 279]);
+    let Some(spot) = whole_spots(laid).into_iter().find(|spot| spot.tag == tag) else { return };
+    let strips = laid.strips.len();
+    let wide = spot.size == 4 * strips;
+    let number = near(random, laid.n());
+    let number = if wide { number } else { number % 65_536 };
+    laid.put_number(spot.value, wide, random.below(strips as u64) as usize, number);
+}
+
+fn swap_entries(laid: &mut Laid, random: &mut Random) {
+    let (one, other) = (random.pick(&laid.spots).entry, random.pick(&laid.spots).entry);
+    for at in 0..12 {
+        laid.bytes.swap(one + at, other + at);
+    }
+}
+
+fn head_field(laid: &mut Laid, random: &mut Random) {
+    let number = near(random, laid.n());
+    match random.below(5) {
+        0 => laid.bytes[random.below(4) as usize] = number as u8,
+        1 => laid.put_long(4, number),
+        2 => laid.put_short(laid.directory, number as u16),
+        3 => laid.put_long(laid.directory + 2 + 12 * laid.spots.len(), number),
+        _ => laid.put_short(laid.directory, laid.spots.len() as u16 + 1 - 2 * (number as u16 % 2)),
+    }
+}
+
+/// Cuts the file, or adds bytes to it.
+fn resize(laid: &mut Laid, random: &mut Random) {
+    let n = laid.n();
+    let length = match random.below(4) {
+        0 => random.below(n as u64) as usize,
+        1 => n - random.within(1, 3) as usize,
+        2 => random.below(12) as usize,
+        _ => n + random.within(1, 5) as usize,
+    };
+    laid.bytes.resize(length, 0x5A);
+}

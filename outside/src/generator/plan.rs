@@ -1,0 +1,335 @@
+//! The plan of a file: its byte order, its entries with their values, its
+//! strips and the order of the pieces; laid out to bytes on demand.
+
+use super::keyplan::Encoded;
+use super::prng::Random;
+use crate::reader::Order;
+
+/// What an entry's value is, before the byte order is chosen.
+#[derive(Clone, Debug)]
+pub enum Value {
+    Bytes(Vec<u8>),
+    Shorts(Vec<u16>),
+    Longs(Vec<u32>),
+    Doubles(Vec<u64>),
+    /// The offsets of the strips, as LONG or as SHORT.
+    Offsets {
+        wide: bool,
+    },
+    /// The last four bytes of the entry as they are; no value elsewhere.
+    Field([u8; 4]),
+}
+
+/// One planned entry.
+#[derive(Clone, Debug)]
+pub struct Tag {
+    pub tag: u16,
+    pub kind: u16,
+    pub count: u32,
+    pub value: Value,
+}
+
+impl Tag {
+    pub fn bytes(tag: u16, kind: u16, bytes: &[u8]) -> Self {
+        Tag { tag, kind, count: bytes.len() as u32, value: Value::Bytes(bytes.to_vec()) }
+    }
+
+    pub fn shorts(tag: u16, numbers: &[u16]) -> Self {
+        Tag { tag, kind: 3, count: numbers.len() as u32, value: Value::Shorts(numbers.to_vec()) }
+    }
+
+    pub fn longs(tag: u16, numbers: &[u32]) -> Self {
+        Tag { tag, kind: 4, count: numbers.len() as u32, value: Value::Longs(numbers.to_vec()) }
+    }
+
+    /// The numbers as LONG if `wide`, else as SHORT.
+    pub fn numbers(tag: u16, wide: bool, numbers: &[u32]) -> Self {
+        if wide {
+            return Tag::longs(tag, numbers);
+        }
+        let short = |number: &u32| u16::try_from(*number).expect("a SHORT");
+        Tag::shorts(tag, &numbers.iter().map(short).collect::<Vec<u16>>())
+    }
+
+    pub fn doubles(tag: u16, doubles: &[f64]) -> Self {
+        let bits: Vec<u64> = doubles.iter().map(|double| double.to_bits()).collect();
+        Tag::double_bits(tag, &bits)
+    }
+
+    pub fn double_bits(tag: u16, bits: &[u64]) -> Self {
+        Tag { tag, kind: 12, count: bits.len() as u32, value: Value::Doubles(bits.to_vec()) }
+    }
+
+    /// An entry with any type, count and last four bytes.
+    pub fn raw(tag: u16, kind: u16, count: u32, field: [u8; 4]) -> Self {
+        Tag { tag, kind, count, value: Value::Field(field) }
+    }
+}
+
+/// A piece of the file that takes its own place in it.
+#[derive(Clone, Copy, Debug, PartialEq, Eq)]
+pub enum Piece {
+    Directory,
+    Value(u16),
+    Strip(usize),
+}
+
+/// The description of a file.
+#[derive(Clone, Debug)]
+pub struct Plan {
+    pub order: Order,
+    pub tags: Vec<Tag>,
+    /// The byte count of each strip.
+    pub strips: Vec<u32>,
+    /// Pieces that come first and last; the others stand between them.
+    pub first: Vec<Piece>,
+    pub last: Vec<Piece>,
+    /// The order of the pieces between, if it is not the natural one.
+    pub shuffle: Option<u64>,
+    /// The fewest and the most free bytes before each piece.
+    pub gap: (u64, u64),
+    /// The seed of all free bytes; strips are always filled from it.
+    pub fill: u64,
+    /// Whether free bytes are random; else they are 0.
+    pub dirty: bool,
+}
+
+impl Plan {
+    /// A plan without tags: the natural order of pieces, no free bytes, zeros.
+    pub fn new(order: Order) -> Self {
+        Plan {
+            order,
+            tags: Vec::new(),
+            strips: Vec::new(),
+            first: Vec::new(),
+            last: Vec::new(),
+            shuffle: None,
+            gap: (0, 0),
+            fill: 0,
+            dirty: false,
+        }
+    }
+
+    pub fn find(&mut self, tag: u16) -> &mut Tag {
+        self.tags.iter_mut().find(|known| known.tag == tag).expect("a planned tag")
+    }
+
+    /// Adds the tag in its place, or replaces the one with its number.
+    pub fn set(&mut self, tag: Tag) {
+        self.remove(tag.tag);
+        let at = self.tags.iter().filter(|known| known.tag < tag.tag).count();
+        self.tags.insert(at, tag);
+    }
+
+    pub fn remove(&mut self, tag: u16) {
+        self.tags.retain(|known| known.tag != tag);
+    }
+
+    /// Sets the strips and both tags that tell of them.
+    pub fn set_strips(&mut self, counts: &[u32], wide: (bool, bool)) {
+        self.strips = counts.to_vec();
+        self.set(Tag {
+            tag: 273,
+            kind: if wide.0 { 4 } else { 3 },
+            count: counts.len() as u32,
+            value: Value::Offsets { wide: wide.0 },
+        });
+        self.set(Tag::numbers(279, wide.1, counts));
+    }
+
+    /// Sets 34735, and 34736 and 34737 where there is something in them.
+    pub fn set_keys(&mut self, keys: &Encoded) {
+        self.set(Tag::shorts(34735, &keys.directory));
+        self.remove(34736);
+        self.remove(34737);
+        if !keys.doubles.is_empty() {
+            self.set(Tag::double_bits(34736, &keys.doubles));
+        }
+        if !keys.characters.is_empty() {
+            self.set(Tag::bytes(34737, 2, &keys.characters));
+        }
+    }
+
+    /// The size in bytes of a value as planned.
+    fn size(&self, tag: &Tag) -> usize {
+        match &tag.value {
+            Value::Bytes(bytes) => bytes.len(),
+            Value::Shorts(numbers) => 2 * numbers.len(),
+            Value::Longs(numbers) => 4 * numbers.len(),
+            Value::Doubles(doubles) => 8 * doubles.len(),
+            Value::Offsets { wide } => tag.count as usize * if *wide { 4 } else { 2 },
+            Value::Field(_) => 4,
+        }
+    }
+
+    /// All pieces in the order they take in the file.
+    fn pieces(&self) -> Vec<Piece> {
+        let mut between = vec![Piece::Directory];
+        let long = self.tags.iter().filter(|tag| self.size(tag) > 4);
+        between.extend(long.map(|tag| Piece::Value(tag.tag)));
+        between.extend((0..self.strips.len()).map(Piece::Strip));
+        if let Some(seed) = self.shuffle {
+            Random::new(seed).shuffle(&mut between);
+        }
+        between.retain(|piece| !self.first.contains(piece) && !self.last.contains(piece));
+        [self.first.clone(), between, self.last.clone()].concat()
+    }
+
+    fn piece_size(&self, piece: Piece) -> usize {
+        match piece {
+            Piece::Directory => 2 + 12 * self.tags.len() + 4,
+            Piece::Value(tag) => {
+                let tag = self.tags.iter().find(|known| known.tag == tag).expect("a planned tag");
+                self.size(tag)
+            }
+            Piece::Strip(strip) => self.strips[strip] as usize,
+        }
+    }
+
+    /// Lays the file out to bytes.
+    pub fn lay(&self) -> Laid {
+        let mut random = Random::new(self.fill);
+        let mut starts = Vec::new();
+        let mut end = 8;
+        for piece in self.pieces() {
+            end += random.within(self.gap.0, self.gap.1) as usize;
+            if !matches!(piece, Piece::Strip(_)) {
+                end += end % 2;
+            }
+            starts.push((piece, end));
+            end += self.piece_size(piece);
+        }
+        end += random.within(self.gap.0, self.gap.1) as usize;
+        let bytes = if self.dirty { random.bytes(end) } else { vec![0; end] };
+        let mut laid = Laid::new(self, bytes, &starts);
+        for &(at, count) in &laid.strips.clone() {
+            let picture = random.bytes(count as usize);
+            laid.bytes[at as usize..(at + count) as usize].copy_from_slice(&picture);
+        }
+        laid.write(self);
+        laid
+    }
+}
+
+/// Where an entry of a laid out file and its value stand.
+#[derive(Clone, Debug)]
+pub struct Spot {
+    pub tag: u16,
+    pub entry: usize,
+    pub value: usize,
+    pub size: usize,
+}
+
+/// A file laid out, with the places of its parts, so that a case can change
+/// single fields in the file's own byte order.
+#[derive(Clone, Debug)]
+pub struct Laid {
+    pub order: Order,
+    pub bytes: Vec<u8>,
+    pub directory: usize,
+    pub spots: Vec<Spot>,
+    /// Offset and byte count of each strip.
+    pub strips: Vec<(u32, u32)>,
+}
+
+impl Laid {
+    fn new(plan: &Plan, bytes: Vec<u8>, starts: &[(Piece, usize)]) -> Self {
+        let start = |wanted: Piece| starts.iter().find(|(piece, _)| *piece == wanted).map(|s| s.1);
+        let directory = start(Piece::Directory).expect("a directory");
+        let spot = |(at, tag): (usize, &Tag)| {
+            let entry = directory + 2 + 12 * at;
+            let value = start(Piece::Value(tag.tag)).unwrap_or(entry + 8);
+            Spot { tag: tag.tag, entry, value, size: plan.size(tag) }
+        };
+        let strip = |at: usize| start(Piece::Strip(at)).expect("a strip") as u32;
+        Laid {
+            order: plan.order,
+            bytes,
+            directory,
+            spots: plan.tags.iter().enumerate().map(spot).collect(),
+            strips: (0..plan.strips.len()).map(|at| (strip(at), plan.strips[at])).collect(),
+        }
+    }
+
+    /// Writes the head, the directory and all values.
+    fn write(&mut self, plan: &Plan) {
+        let mark = if self.order == Order::Little { 0x49 } else { 0x4D };
+        self.bytes[..2].copy_from_slice(&[mark, mark]);
+        self.put_short(2, 42);
+        self.put_long(4, self.directory as u32);
+        self.put_short(self.directory, plan.tags.len() as u16);
+        for (spot, tag) in self.spots.clone().iter().zip(&plan.tags) {
+            self.put_short(spot.entry, tag.tag);
+            self.put_short(spot.entry + 2, tag.kind);
+            self.put_long(spot.entry + 4, tag.count);
+            if spot.size > 4 {
+                self.put_long(spot.entry + 8, spot.value as u32);
+            }
+            self.write_value(spot, tag);
+        }
+        self.put_long(self.directory + 2 + 12 * plan.tags.len(), 0);
+    }
+
+    fn write_value(&mut self, spot: &Spot, tag: &Tag) {
+        let at = spot.value;
+        match &tag.value {
+            Value::Bytes(bytes) => self.bytes[at..at + bytes.len()].copy_from_slice(bytes),
+            Value::Field(field) => self.bytes[at..at + 4].copy_from_slice(field),
+            Value::Shorts(numbers) => {
+                numbers.iter().enumerate().for_each(|(i, &n)| self.put_short(at + 2 * i, n));
+            }
+            Value::Longs(numbers) => {
+                numbers.iter().enumerate().for_each(|(i, &n)| self.put_long(at + 4 * i, n));
+            }
+            Value::Doubles(doubles) => {
+                doubles.iter().enumerate().for_each(|(i, &d)| self.put_double(at + 8 * i, d));
+            }
+            Value::Offsets { wide } => {
+                for i in 0..tag.count as usize {
+                    let offset = self.strips[i.min(self.strips.len() - 1)].0;
+                    self.put_number(at, *wide, i, offset);
+                }
+            }
+        }
+    }
+
+    pub fn n(&self) -> usize {
+        self.bytes.len()
+    }
+
+    pub fn spot(&self, tag: u16) -> Spot {
+        self.spots.iter().find(|spot| spot.tag == tag).expect("a laid out tag").clone()
+    }
+
+    pub fn put_short(&mut self, at: usize, number: u16) {
+        let bytes = match self.order {
+            Order::Little => number.to_le_bytes(),
+            Order::Big => number.to_be_bytes(),
+        };
+        self.bytes[at..at + 2].copy_from_slice(&bytes);
+    }
+
+    pub fn put_long(&mut self, at: usize, number: u32) {
+        let bytes = match self.order {
+            Order::Little => number.to_le_bytes(),
+            Order::Big => number.to_be_bytes(),
+        };
+        self.bytes[at..at + 4].copy_from_slice(&bytes);
+    }
+
+    pub fn put_double(&mut self, at: usize, bits: u64) {
+        let bytes = match self.order {
+            Order::Little => bits.to_le_bytes(),
+            Order::Big => bits.to_be_bytes(),
+        };
+        self.bytes[at..at + 8].copy_from_slice(&bytes);
+    }
+
+    pub fn put_number(&mut self, at: usize, wide: bool, i: usize, number: u32) {
+        if wide {
+            self.put_long(at + 4 * i, number);
+        } else {
+            self.put_short(at + 2 * i, u16::try_from(number).expect("a SHORT"));
+        }
+    }
+}

@@ -1,0 +1,114 @@
+//! The targeted cases: for every clause of every rule a file just beyond its
+//! boundary and one just within, each with the verdict it must give by
+//! construction. `pairs` breaks two rules at once: the first must be named.
+
+mod bases;
+mod blocks;
+mod calls;
+mod directory;
+mod ground;
+mod head;
+mod keys;
+mod pairs;
+mod strips;
+mod tags;
+
+use super::prng::Random;
+use crate::reader::clauses::registered;
+use crate::reader::{self, Order, Verdict};
+use bases::Bases;
+
+/// The call a case makes.
+#[derive(Clone, Debug)]
+pub enum Call {
+    Judge,
+    /// With so many rows lent.
+    Rows(usize),
+    /// Of this key.
+    Citation(u32),
+    /// With so many bytes of output.
+    Block(usize),
+    /// On the three runs of a key block; the case has no file.
+    ReadBlock([Vec<u8>; 3]),
+}
+
+/// One file (or key block), one call on it and the verdict it must give.
+#[derive(Clone, Debug)]
+pub struct Case {
+    /// The clause at whose boundary the case stands.
+    pub clause: &'static str,
+    /// Whether that clause is broken; else it is just kept.
+    pub broken: bool,
+    pub call: Call,
+    pub file: Vec<u8>,
+    pub want: Verdict,
+}
+
+impl Case {
+    /// The reader's verdict on the case, and the clause it names.
+    pub fn answer(&self) -> (Verdict, &'static str) {
+        match &self.call {
+            Call::Judge => reader::judge_clause(&self.file),
+            Call::Rows(lent) => reader::key_rows_clause(&self.file, *lent),
+            Call::Citation(key) => reader::citation_clause(&self.file, *key),
+            Call::Block(room) => reader::key_block_clause(&self.file, *room),
+            Call::ReadBlock([directory, doubles, characters]) => {
+                reader::read_block_clause(directory, doubles, characters)
+            }
+        }
+    }
+}
+
+/// The cases so far.
+#[derive(Default)]
+pub struct Cases {
+    list: Vec<Case>,
+}
+
+/// The number of the rule that a clause belongs to.
+fn rule_of(clause: &str) -> u32 {
+    let number = clause.split(' ').find(|word| *word != "block");
+    number.and_then(|word| word.parse().ok()).expect("a clause starts with its rule")
+}
+
+impl Cases {
+    fn add(&mut self, clause: &str, broken: bool, call: Call, file: Vec<u8>, want: (u32, u32)) {
+        let name = registered(clause);
+        assert_eq!(name, clause, "a clause of the list");
+        let want = Verdict { number: want.0, place: want.1 };
+        self.list.push(Case { clause: name, broken, call, file, want });
+    }
+
+    /// A file that breaks the clause, at this place.
+    fn broken(&mut self, clause: &str, file: Vec<u8>, place: u32) {
+        self.add(clause, true, Call::Judge, file, (rule_of(clause), place));
+    }
+
+    /// A file that just keeps the clause and every other one.
+    fn kept(&mut self, clause: &str, file: Vec<u8>) {
+        self.add(clause, false, Call::Judge, file, (0, 0));
+    }
+
+    /// A file that just keeps the clause and must then break a later rule.
+    fn kept_until(&mut self, clause: &str, file: Vec<u8>, number: u32, place: u32) {
+        self.add(clause, false, Call::Judge, file, (number, place));
+    }
+}
+
+/// All targeted cases; the seed draws free bytes, layouts and pictures.
+pub fn targeted(seed: u64) -> Vec<Case> {
+    let mut cases = Cases::default();
+    for (number, order) in [(0, Order::Little), (1, Order::Big)] {
+        let mut bases = Bases { order, random: Random::new(seed).branch(number) };
+        head::cases(&mut bases, &mut cases);
+        directory::cases(&mut bases, &mut cases);
+        tags::cases(&mut bases, &mut cases);
+        strips::cases(&mut bases, &mut cases);
+        keys::cases(&mut bases, &mut cases);
+        ground::cases(&mut bases, &mut cases);
+        calls::cases(&mut bases, &mut cases);
+        pairs::cases(&mut bases, &mut cases);
+    }
+    blocks::cases(&mut cases);
+    cases.list
+}

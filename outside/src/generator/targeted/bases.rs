@@ -1,0 +1,95 @@
+//! The accepted files that targeted cases start from.
+
+use crate::generator::keyplan::{Held, Keys};
+use crate::generator::plan::{Plan, Tag};
+use crate::generator::prng::Random;
+use crate::reader::Order;
+
+/// Draws base plans of one byte order; all of them keep every rule.
+pub struct Bases {
+    pub order: Order,
+    pub random: Random,
+}
+
+/// The three keys a projected file needs.
+pub fn few_keys() -> Keys {
+    let mut keys = Keys::default();
+    keys.set(1024, Held::Number(1));
+    keys.set(1025, Held::Number(1));
+    keys.set(3072, Held::Number(32633));
+    keys
+}
+
+/// Keys of every kind at every location.
+pub fn many_keys() -> Keys {
+    few_keys()
+        .with(1026, Held::Text(b"Survey|".to_vec()))
+        .with(2054, Held::Number(9102))
+        .with(2057, Held::Doubles(vec![6_378_137.0f64.to_bits()]))
+        .with(3076, Held::Number(9001))
+        .with(4096, Held::Number(5773))
+        .with(60000, Held::Number(0))
+        .with(60001, Held::Array(vec![7, 8, 9]))
+        .with(60002, Held::Doubles(vec![1, 2]))
+        .with(60003, Held::Text(b"free".to_vec()))
+}
+
+impl Bases {
+    /// A plan without tags, with a random layout and random free bytes.
+    fn empty(&mut self) -> Plan {
+        let mut plan = Plan::new(self.order);
+        if self.random.chance(50) {
+            plan.shuffle = Some(self.random.draw());
+        }
+        plan.gap = self.random.pick(&[(0, 0), (0, 3), (1, 2)]);
+        plan.fill = self.random.draw();
+        plan.dirty = self.random.chance(75);
+        plan
+    }
+
+    /// The needed tags, one strip, scale and tiepoint, three keys.
+    pub fn plain(&mut self) -> Plan {
+        let mut plan = self.empty();
+        for (tag, number) in [(256, 4), (257, 2), (258, 8), (259, 1), (262, 1), (277, 1), (278, 2)]
+        {
+            plan.set(Tag::shorts(tag, &[number]));
+        }
+        plan.set_strips(&[8], (self.random.chance(50), self.random.chance(50)));
+        plan.set(Tag::doubles(33550, &[0.5, 0.5, 0.0]));
+        plan.set(Tag::doubles(33922, &[0.0, 0.0, 0.0, 500_000.0, 4_000_000.0, 0.0]));
+        plan.set_keys(&few_keys().encode());
+        plan
+    }
+
+    /// Every tag of the table but the matrix, three strips of three samples,
+    /// keys of every kind, and tags outside the table.
+    pub fn rich(&mut self) -> Plan {
+        let mut plan = self.plain();
+        plan.set(Tag::longs(256, &[6]));
+        plan.set(Tag::longs(257, &[5]));
+        plan.set(Tag::shorts(258, &[8, 8, 8]));
+        plan.set(Tag::shorts(262, &[2]));
+        plan.set(Tag::shorts(277, &[3]));
+        plan.set_strips(&[12, 9, 7], (true, true));
+        plan.set(Tag::shorts(284, &[1]));
+        plan.set(Tag::bytes(305, 2, b"a writer\0"));
+        plan.set_keys(&many_keys().encode());
+        plan.set(Tag::bytes(50909, 1, b"<metadata/>"));
+        plan.set(Tag::raw(65000, 13, 0, [0xFF, 0xFF, 0xFF, 0xFF]));
+        plan.set(Tag::longs(65001, &[0x0101_0101]));
+        plan
+    }
+
+    /// The plain file with a matrix instead of scale and tiepoint.
+    pub fn affine(&mut self) -> Plan {
+        let mut plan = self.plain();
+        plan.remove(33550);
+        plan.remove(33922);
+        plan.set(Tag::doubles(34264, &MATRIX));
+        plan
+    }
+}
+
+/// A matrix with rotation that keeps rule 21.
+pub const MATRIX: [f64; 16] =
+    [0.5, 0.25, 0., 500_000., -0.25, -0.5, 0., 4_000_000., 0., 0., 0., 0., 0., 0., 0., 1.];

@@ -1,0 +1,52 @@
+//! Two rules broken at once in one file: the one of lower number is named.
+
+use super::bases::Bases;
+use super::Cases;
+use crate::generator::plan::Laid;
+
+/// A clause, its place, and how to break it without touching the others.
+type Damage = (&'static str, u32, fn(&mut Laid));
+
+/// One damage for each rule, in order of number, on the rich file.
+const DAMAGES: [Damage; 21] = [
+    ("2 neither order", 0, |laid| laid.bytes[0] = 0),
+    ("3 not 42", 0, |laid| laid.put_short(2, 43)),
+    ("4 odd", 0, |laid| laid.put_long(4, 9)),
+    ("5 c is 0", 0, |laid| laid.put_short(laid.directory, 0)),
+    ("6 equal tag", 65_000, |laid| laid.put_short(laid.spot(65_001).entry, 65_000)),
+    ("7 type 2 count 0", 305, |laid| laid.put_long(laid.spot(305).entry + 4, 0)),
+    ("8 next offset", 0, |laid| laid.put_long(laid.directory + 2 + 12 * laid.spots.len(), 8)),
+    ("9 256 absent", 256, |laid| laid.put_short(laid.spot(256).entry, 255)),
+    ("10 257 type", 257, |laid| laid.put_short(laid.spot(257).entry + 2, 13)),
+    ("11 262 above", 262, |laid| laid.put_short(laid.spot(262).value, 4)),
+    ("12 258 values differ", 258, |laid| laid.put_short(laid.spot(258).value + 4, 16)),
+    ("13 byte count 0", 1, |laid| laid.put_long(laid.spot(279).value + 4, 0)),
+    ("14 directory", 0, |laid| laid.put_long(laid.spot(273).value, laid.directory as u32)),
+    ("15 third number", 0, |laid| laid.put_short(laid.spot(34735).value + 4, 1)),
+    ("16 equal key", 60_002, |laid| put_key(laid, 11, 0, 60_002)),
+    ("17 ASCII location", 1026, |laid| put_key(laid, 2, 1, 7)),
+    ("18 1024 absent", 1024, |laid| put_key(laid, 0, 0, 1023)),
+    ("19 3076 above", 3076, |laid| put_key(laid, 6, 3, 9002)),
+    ("20 scale alone", 0, |laid| laid.put_short(laid.spot(33922).entry, 33921)),
+    ("21 33550 X not above 0", 33550, |laid| laid.put_double(laid.spot(33550).value, 0)),
+    ("22 scaled second Y infinite", 0, |laid| {
+        laid.put_double(laid.spot(33550).value + 8, 1e308f64.to_bits());
+        laid.put_double(laid.spot(33922).value + 32, (-f64::MAX).to_bits());
+    }),
+];
+
+/// Puts a number of the key directory's entry at `position`.
+fn put_key(laid: &mut Laid, position: usize, column: usize, number: u16) {
+    laid.put_short(laid.spot(34735).value + 8 + 8 * position + 2 * column, number);
+}
+
+pub fn cases(bases: &mut Bases, cases: &mut Cases) {
+    for (at, (clause, place, first)) in DAMAGES.iter().enumerate() {
+        for (_, _, second) in &DAMAGES[at..] {
+            let mut laid = bases.rich().lay();
+            second(&mut laid);
+            first(&mut laid);
+            cases.broken(clause, laid.bytes, *place);
+        }
+    }
+}

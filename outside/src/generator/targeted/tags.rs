@@ -1,0 +1,302 @@
+//! Rules 9 to 12: needed tags, types and counts, values, agreement.
+
+use super::bases::Bases;
+use super::Cases;
+use crate::generator::plan::{Plan, Tag};
+use crate::reader::tables::{Count, TagRow, TAGS};
+
+pub fn cases(bases: &mut Bases, cases: &mut Cases) {
+    absent(bases, cases);
+    types(bases, cases);
+    types_together(bases, cases);
+    counts(bases, cases);
+    values(bases, cases);
+    values_of_bits(bases, cases);
+    values_together(bases, cases);
+    bits_and_samples(bases, cases);
+    compression(bases, cases);
+    strip_counts(bases, cases);
+    strips_rounded_up(bases, cases);
+}
+
+fn absent(bases: &mut Bases, cases: &mut Cases) {
+    let needed: Vec<u16> = TAGS.iter().filter(|row| row.needed).map(|row| row.tag).collect();
+    for (at, &tag) in needed.iter().enumerate() {
+        let clause = format!("9 {tag} absent");
+        cases.kept(&clause, bases.plain().lay().bytes);
+        for mut plan in [bases.plain(), bases.rich()] {
+            plan.remove(tag);
+            cases.broken(&clause, plan.lay().bytes, u32::from(tag));
+            needed[at..].iter().for_each(|&later| plan.remove(later));
+            cases.broken(&clause, plan.lay().bytes, u32::from(tag));
+        }
+    }
+    for tag in [284, 50909] {
+        let mut plan = bases.rich();
+        plan.remove(tag);
+        cases.kept("9 279 absent", plan.lay().bytes);
+    }
+    let mut renamed = bases.rich().lay();
+    renamed.put_short(renamed.spots[0].entry, 255);
+    cases.broken("9 256 absent", renamed.bytes, 256);
+}
+
+/// A base that has the tag.
+fn base_with(bases: &mut Bases, tag: u16) -> Plan {
+    if tag == 34264 {
+        bases.affine()
+    } else {
+        bases.rich()
+    }
+}
+
+/// A tag of any type and count with a value of zeros.
+fn zeros(tag: u16, kind: u16, count: u32) -> Tag {
+    const SIZES: [usize; 12] = [1, 1, 2, 4, 8, 1, 1, 2, 4, 8, 4, 8];
+    match kind {
+        1..=12 => {
+            let size = SIZES[usize::from(kind) - 1];
+            Tag { count, ..Tag::bytes(tag, kind, &vec![0; size * count as usize]) }
+        }
+        _ => Tag::raw(tag, kind, count, [0; 4]),
+    }
+}
+
+fn types(bases: &mut Bases, cases: &mut Cases) {
+    for row in &TAGS {
+        let clause = format!("10 {} type", row.tag);
+        for kind in (0..=14).chain([0x0300, 65_535]).filter(|kind| !row.kinds.contains(kind)) {
+            let mut plan = base_with(bases, row.tag);
+            let count = plan.find(row.tag).count;
+            plan.set(zeros(row.tag, kind, count));
+            cases.broken(&clause, plan.lay().bytes, u32::from(row.tag));
+        }
+        cases.kept(&clause, base_with(bases, row.tag).lay().bytes);
+    }
+    for (tag, number) in [(256, 6), (257, 5), (278, 2)] {
+        for wide in [false, true] {
+            let mut plan = bases.rich();
+            plan.set(Tag::numbers(tag, wide, &[number]));
+            cases.kept(&format!("10 {tag} type"), plan.lay().bytes);
+        }
+    }
+    for wide in [(false, false), (false, true), (true, false), (true, true)] {
+        let mut plan = bases.rich();
+        plan.set_strips(&[3, 1, 4], wide);
+        cases.kept("10 273 type", plan.lay().bytes.clone());
+        cases.kept("10 279 type", plan.lay().bytes);
+    }
+}
+
+/// Two neighbours of another type: the lower one is named.
+fn types_together(bases: &mut Bases, cases: &mut Cases) {
+    let rows: Vec<&TagRow> = TAGS.iter().filter(|row| row.tag != 34264).collect();
+    for pair in rows.windows(2) {
+        let mut plan = bases.rich();
+        plan.find(pair[0].tag).kind = 13;
+        plan.find(pair[1].tag).kind = 0;
+        let clause = format!("10 {} type", pair[0].tag);
+        cases.broken(&clause, plan.lay().bytes, u32::from(pair[0].tag));
+    }
+}
+
+fn counts(bases: &mut Bases, cases: &mut Cases) {
+    for row in &TAGS {
+        let clause = format!("10 {} count", row.tag);
+        let wrong: Vec<u32> = match row.count {
+            Count::Exactly(1) => vec![2, 3, 256],
+            Count::Exactly(count) => vec![1, count - 1, count + 1, 2 * count],
+            Count::AtLeast(1) => continue,
+            Count::AtLeast(count) => (1..count).collect(),
+        };
+        for count in wrong {
+            for &kind in row.kinds {
+                let mut plan = base_with(bases, row.tag);
+                plan.set(zeros(row.tag, kind, count));
+                cases.broken(&clause, plan.lay().bytes, u32::from(row.tag));
+            }
+        }
+        cases.kept(&clause, base_with(bases, row.tag).lay().bytes);
+    }
+    let mut no_keys = bases.plain();
+    no_keys.set(Tag::shorts(34735, &[1, 1, 0, 0]));
+    cases.kept_until("10 34735 count", no_keys.lay().bytes, 18, 1024);
+}
+
+/// The plain plan with a tag's number, and where it is allowed with others
+/// that let it stand.
+fn with_value(bases: &mut Bases, tag: u16, number: u32, wide: bool, allowed: bool) -> Vec<u8> {
+    let mut plan = bases.plain();
+    plan.set(Tag::numbers(tag, wide, &[number]));
+    match tag {
+        257 => plan.set(Tag::longs(278, &[u32::MAX])),
+        259 if allowed && number != 1 => plan.set(Tag::shorts(258, &[1])),
+        277 if allowed => plan.set(Tag::shorts(258, &vec![8; number as usize])),
+        278 if allowed => plan.set(Tag::shorts(257, &[1])),
+        _ => {}
+    }
+    plan.lay().bytes
+}
+
+/// Tag, side, numbers beyond the bound, numbers just within.
+type Bound = (u16, &'static str, &'static [u32], &'static [u32]);
+
+const BOUNDS: [Bound; 16] = [
+    (256, "below", &[0], &[1, 2]),
+    (256, "above", &[1_000_001, 16_777_216, u32::MAX], &[1_000_000, 65_536]),
+    (257, "below", &[0], &[1, 2]),
+    (257, "above", &[1_000_001, 16_777_216, u32::MAX], &[1_000_000, 65_536]),
+    (258, "below", &[0], &[1]),
+    (258, "between", &[2, 4, 7, 9, 15, 17, 24, 31], &[1, 8, 16, 32]),
+    (258, "above", &[33, 64, 256, 65_535], &[32]),
+    (259, "below", &[0], &[1]),
+    (259, "between", &[3, 4, 5, 7, 8, 32_772], &[2, 32_773]),
+    (259, "above", &[32_774, 32_946, 65_535], &[32_773]),
+    (262, "above", &[4, 5, 8, 256, 65_535], &[0, 1, 2, 3]),
+    (277, "below", &[0], &[1]),
+    (277, "above", &[9, 256, 65_535], &[2, 7, 8]),
+    (278, "below", &[0], &[1, 2, 65_535, 65_536, u32::MAX]),
+    (284, "below", &[0], &[1]),
+    (284, "above", &[2, 256, 65_535], &[1]),
+];
+
+fn values(bases: &mut Bases, cases: &mut Cases) {
+    for (tag, side, beyond, within) in BOUNDS {
+        let clause = format!("11 {tag} {side}");
+        let long = matches!(tag, 256 | 257 | 278);
+        let forms = |number: u32| [(false, number < 65_536), (true, long)].into_iter();
+        for &number in beyond {
+            for (wide, _) in forms(number).filter(|(_, fits)| *fits) {
+                let file = with_value(bases, tag, number, wide, false);
+                cases.broken(&clause, file, u32::from(tag));
+            }
+        }
+        for &number in within {
+            for (wide, _) in forms(number).filter(|(_, fits)| *fits) {
+                cases.kept(&clause, with_value(bases, tag, number, wide, true));
+            }
+        }
+    }
+}
+
+/// Every value of 258 is tested, and before its count is compared.
+fn values_of_bits(bases: &mut Bases, cases: &mut Cases) {
+    for at in 0..4 {
+        let mut bits = [8; 4];
+        bits[at] = 7;
+        let mut plan = bases.rich();
+        plan.set(Tag::shorts(258, &bits));
+        cases.broken("11 258 between", plan.lay().bytes, 258);
+        plan.set(Tag::shorts(258, &bits[..3]));
+        if at < 3 {
+            cases.broken("11 258 between", plan.lay().bytes, 258);
+        }
+    }
+}
+
+/// Two values not allowed: the lower tag is named.
+fn values_together(bases: &mut Bases, cases: &mut Cases) {
+    let faults = [(256, "below"), (257, "below"), (258, "below"), (259, "below"), (262, "above")];
+    let more = [(277, "below"), (278, "below"), (284, "below")];
+    let faults: Vec<(u16, &str)> = faults.into_iter().chain(more).collect();
+    for pair in faults.windows(2) {
+        let mut plan = bases.rich();
+        for &(tag, _) in pair {
+            plan.set(Tag::shorts(tag, &[if tag == 262 { 4 } else { 0 }]));
+        }
+        let clause = format!("11 {} {}", pair[0].0, pair[0].1);
+        cases.broken(&clause, plan.lay().bytes, u32::from(pair[0].0));
+    }
+}
+
+fn bits_and_samples(bases: &mut Bases, cases: &mut Cases) {
+    let file = |bases: &mut Bases, bits: &[u16], samples: u16| {
+        let mut plan = bases.rich();
+        plan.set(Tag::shorts(258, bits));
+        plan.set(Tag::shorts(277, &[samples]));
+        plan.lay().bytes
+    };
+    let count = "12 258 count is not samples";
+    for (bits, samples) in [(1, 2), (2, 1), (2, 3), (4, 3), (8, 7), (7, 8), (9, 8), (1, 8)] {
+        cases.broken(count, file(bases, &vec![8; bits], samples), 258);
+    }
+    for samples in 1..=8 {
+        cases.kept(count, file(bases, &vec![16; samples], samples as u16));
+    }
+    let differ = "12 258 values differ";
+    for bits in [[16, 8, 8], [8, 16, 8], [8, 8, 16], [1, 8, 32], [32, 32, 1]] {
+        cases.broken(differ, file(bases, &bits, 3), 258);
+    }
+    for bits in [1, 8, 16, 32] {
+        cases.kept(differ, file(bases, &[bits; 3], 3));
+    }
+}
+
+fn compression(bases: &mut Bases, cases: &mut Cases) {
+    let file = |bases: &mut Bases, compression: u16, bits: u16, samples: usize| {
+        let mut plan = bases.plain();
+        plan.set(Tag::shorts(258, &vec![bits; samples]));
+        plan.set(Tag::shorts(259, &[compression]));
+        plan.set(Tag::shorts(277, &[samples as u16]));
+        plan.lay().bytes
+    };
+    for number in [2, 32_773] {
+        let (bits, samples) = (
+            format!("12 259 is {number}, bits not 1"),
+            format!("12 259 is {number}, samples not 1"),
+        );
+        for wrong in [8, 16, 32] {
+            cases.broken(&bits, file(bases, number, wrong, 1), 259);
+            cases.broken(&bits, file(bases, number, wrong, 2), 259);
+            cases.kept(&bits, file(bases, 1, wrong, 2));
+        }
+        for wrong in [2, 8] {
+            cases.broken(&samples, file(bases, number, 1, wrong), 259);
+            cases.kept(&samples, file(bases, 1, 1, wrong));
+        }
+        cases.kept(&bits, file(bases, number, 1, 1));
+        cases.kept(&samples, file(bases, number, 1, 1));
+    }
+}
+
+/// Offsets and byte counts each one too few or one too many.
+fn strip_counts(bases: &mut Bases, cases: &mut Cases) {
+    for (tag, other) in [(273, 279), (279, 273)] {
+        for (count, what) in [(1, "few"), (2, "few"), (4, "many"), (5, "many")] {
+            let mut plan = bases.rich();
+            plan.find(tag).count = count;
+            if tag == 279 {
+                plan.set(Tag::longs(279, &vec![1; count as usize]));
+            }
+            let clause = format!("12 {tag} too {what}");
+            cases.broken(&clause, plan.lay().bytes, u32::from(tag));
+            plan.set_strips(&vec![1; count as usize], (true, true));
+            let both = format!("12 273 too {what}");
+            cases.broken(&both, plan.lay().bytes, 273);
+            cases.kept(&clause, bases.rich().lay().bytes);
+            cases.kept(&format!("12 {other} too {what}"), bases.rich().lay().bytes);
+        }
+    }
+}
+
+/// Length / rows per strip is rounded up and must not overflow.
+fn strips_rounded_up(bases: &mut Bases, cases: &mut Cases) {
+    let of =
+        [(5, 1, 5), (5, 2, 3), (5, 4, 2), (5, 5, 1), (5, 6, 1), (4, 2, 2), (6, 2, 3), (1, 1, 1)];
+    let far = [(1_000_000, u32::MAX, 1), (1_000_000, 999_999, 2), (65_537, 65_536, 2)];
+    for (length, rows, strips) in of.into_iter().chain(far) {
+        let file = |bases: &mut Bases, strips: usize| {
+            let mut plan = bases.plain();
+            plan.set(Tag::longs(257, &[length]));
+            plan.set(Tag::longs(278, &[rows]));
+            plan.set_strips(&vec![2; strips], (true, false));
+            plan.lay().bytes
+        };
+        cases.kept("12 273 too few", file(bases, strips));
+        cases.kept("12 273 too many", file(bases, strips));
+        if strips > 1 {
+            cases.broken("12 273 too few", file(bases, strips - 1), 273);
+        }
+        cases.broken("12 273 too many", file(bases, strips + 1), 273);
+    }
+}

@@ -1,0 +1,287 @@
+//! Random files that keep every rule, of as much variety as the document lets
+//! stand.
+
+use super::keyplan::{Held, Keys};
+use super::plan::{Laid, Piece, Plan, Tag};
+use super::prng::Random;
+use crate::reader::tables::{Kind, KEYS};
+use crate::reader::Order;
+
+/// Tags outside the table that a file may carry.
+const UNKNOWN_TAGS: [u16; 16] =
+    [0, 1, 254, 255, 260, 266, 270, 282, 305, 322, 325, 33549, 34738, 50908, 65000, 65535];
+
+/// Key numbers outside the 45 known ones, their neighbours among them.
+const UNKNOWN_KEYS: [u16; 14] =
+    [0, 1, 1023, 1027, 2047, 2062, 3071, 3096, 4095, 4100, 32767, 60000, 65534, 65535];
+
+/// A laid out file that keeps every rule.
+pub fn file(random: &mut Random) -> Laid {
+    let plan = plan(random);
+    let mut laid = plan.lay();
+    if random.chance(25) {
+        share_values(&mut laid, random);
+    }
+    laid
+}
+
+/// A plan that keeps every rule.
+pub fn plan(random: &mut Random) -> Plan {
+    let mut plan = Plan::new(random.pick(&[Order::Little, Order::Big]));
+    plan.fill = random.draw();
+    plan.dirty = random.chance(70);
+    picture(&mut plan, random);
+    strips(&mut plan, random);
+    ground(&mut plan, random);
+    let keys = keys(random).encode();
+    plan.set_keys(&keys);
+    if random.chance(50) {
+        let count = random.pick(&[1, 2, 3, 4, 5, 6, 17, 40]);
+        plan.set(Tag::bytes(50909, 1, &random.bytes(count)));
+    }
+    unknown_tags(&mut plan, random);
+    arrange(&mut plan, random);
+    plan
+}
+
+/// Bits, compression, photometric, samples and planar.
+fn picture(plan: &mut Plan, random: &mut Random) {
+    let packed = random.chance(30);
+    let samples = if packed { 1 } else { random.pick(&[1, 1, 1, 2, 3, 4, 8]) };
+    let bits = if packed { 1 } else { random.pick(&[1, 8, 8, 16, 32]) };
+    let compression = if packed { random.pick(&[2, 32773]) } else { 1 };
+    plan.set(Tag::shorts(258, &vec![bits; samples]));
+    plan.set(Tag::shorts(259, &[compression]));
+    plan.set(Tag::shorts(262, &[random.below(4) as u16]));
+    plan.set(Tag::shorts(277, &[samples as u16]));
+    if random.chance(50) {
+        plan.set(Tag::shorts(284, &[1]));
+    }
+}
+
+/// A number as SHORT or LONG, as its size and chance decide.
+fn number(tag: u16, number: u32, random: &mut Random) -> Tag {
+    Tag::numbers(tag, number > 65_535 || random.chance(50), &[number])
+}
+
+/// Width, length, rows per strip and the strips themselves.
+fn strips(plan: &mut Plan, random: &mut Random) {
+    let width = random.pick(&[1, 2, 4, 9, 640, 65_535, 65_536, 1_000_000]);
+    let count = random.pick(&[1, 1, 1, 2, 3, 4, 7]);
+    let rows = match count {
+        1 => random.pick(&[1, 2, 8, 1000, 65_536, 1_000_000, u32::MAX]),
+        _ => random.pick(&[1, 2, 3, 8, 1000, 65_536]),
+    };
+    let drawn = random.within(1, u64::from(rows)) as u32;
+    let last = random.pick(&[1, rows, drawn]);
+    let length = (rows.min(1_000_000) * (count - 1) + last).min(1_000_000);
+    plan.set(number(256, width, random));
+    plan.set(number(257, length, random));
+    plan.set(number(278, rows, random));
+    let counts: Vec<u32> = (0..count).map(|_| random.within(1, 20) as u32).collect();
+    plan.set_strips(&counts, (random.chance(50), random.chance(50)));
+}
+
+/// A finite double of moderate size, both zeros among them.
+fn double(random: &mut Random) -> f64 {
+    let whole = random.below(20_000_000) as f64 - 10_000_000.0;
+    match random.below(8) {
+        0 => 0.0,
+        1 => -0.0,
+        2 => whole,
+        3 => whole / 2.0,
+        4 => f64::from_bits(random.below(1 << 52)),
+        _ => whole * (random.below(1 << 53) as f64 / 9_007_199_254_740_992.0),
+    }
+}
+
+/// A finite double of any size, for places that only ask for finiteness.
+fn unused(random: &mut Random) -> f64 {
+    let drawn = f64::from_bits(random.draw());
+    let choices = [0.0, -0.0, f64::MAX, -f64::MAX, 5e-324, drawn];
+    let chosen = random.pick(&choices);
+    if chosen.is_finite() {
+        chosen
+    } else {
+        1.0
+    }
+}
+
+/// Scale with tiepoint, or matrix.
+fn ground(plan: &mut Plan, random: &mut Random) {
+    if random.chance(60) {
+        let scale = |random: &mut Random| match random.below(4) {
+            0 => 0.5,
+            1 => 5e-324,
+            2 => f64::MIN_POSITIVE,
+            _ => (1 + random.below(1 << 40)) as f64 / 1_048_576.0,
+        };
+        let three = [scale(random), scale(random), unused(random)];
+        plan.set(Tag::doubles(33550, &three));
+        let mut six: Vec<f64> = (0..6).map(|_| double(random)).collect();
+        (six[2], six[5]) = (unused(random), unused(random));
+        plan.set(Tag::doubles(33922, &six));
+        return;
+    }
+    let mut matrix: Vec<f64> = (0..16).map(|_| double(random)).collect();
+    for element in [3, 7, 9, 10, 11, 12] {
+        matrix[element - 1] = unused(random);
+    }
+    if matrix[0] * matrix[5] == matrix[1] * matrix[4] {
+        (matrix[0], matrix[1]) = (0.5, random.pick(&[0.0, -0.0]));
+        (matrix[4], matrix[5]) = (random.pick(&[0.0, -0.0]), -0.5);
+    }
+    let zero = |random: &mut Random| random.pick(&[0.0, -0.0]);
+    let last = [zero(random), zero(random), zero(random), 1.0];
+    matrix[12..].copy_from_slice(&last);
+    plan.set(Tag::doubles(34264, &matrix));
+}
+
+/// Needed keys, some known ones and some unknown ones.
+fn keys(random: &mut Random) -> Keys {
+    let mut keys = Keys::default();
+    let geographic = random.chance(30);
+    keys.set(1024, Held::Number(if geographic { 2 } else { 1 }));
+    keys.set(1025, Held::Number(random.within(1, 2) as u16));
+    let zone = random.pick(&[32601, 32633, 32661, 32701, 32733, 32761]);
+    let (system, code) = if geographic { (2048, 4326) } else { (3072, zone) };
+    keys.set(system, Held::Number(code));
+    for _ in 0..random.below(6) {
+        let row = random.pick(&KEYS);
+        if row.key == 1024 || row.key == 1025 {
+            continue;
+        }
+        keys.set(row.key, known(row.kind, row.allowed, random));
+    }
+    for _ in 0..random.below(5) {
+        let key = random.pick(&UNKNOWN_KEYS);
+        keys.set(key, other(random));
+    }
+    keys.share = random.chance(40);
+    keys.placing = if random.chance(50) { Some(random.draw()) } else { None };
+    if random.chance(30) {
+        let spare = random.pick(&[1, 2, 3]);
+        keys.spare.0 = (0..spare).map(|_| random.draw() as u16).collect();
+        keys.spare.1 = (0..spare).map(|_| random.draw()).collect();
+        keys.spare.2 = random.bytes(spare);
+    }
+    if random.chance(15) {
+        over_header(&mut keys, random);
+    }
+    if random.chance(2) {
+        fill_up(&mut keys, random);
+    }
+    keys
+}
+
+/// What a known key holds.
+fn known(kind: Kind, allowed: Option<&[(u32, u32)]>, random: &mut Random) -> Held {
+    match kind {
+        Kind::Short => {
+            let (low, high) = allowed.map_or((0, 65_535), |ranges| random.pick(ranges));
+            Held::Number(random.within(u64::from(low), u64::from(high)) as u16)
+        }
+        Kind::Double => Held::Doubles(vec![random.draw()]),
+        _ => {
+            let text =
+                random.pick(&["|", "a|", "ab|", "a|b|", "WGS 84|", "WGS 84 / UTM zone 33N|"]);
+            Held::Text(text.as_bytes().to_vec())
+        }
+    }
+}
+
+/// What a key of kind other holds.
+fn other(random: &mut Random) -> Held {
+    let count = random.pick(&[1, 2, 3, 5]);
+    match random.below(5) {
+        0 | 1 => Held::Number(random.draw() as u16),
+        2 => Held::Array((0..count).map(|_| random.below(3) as u16).collect()),
+        3 => Held::Doubles((0..count).map(|_| random.below(2)).collect()),
+        _ => Held::Text((0..count).map(|_| random.pick(b"ab|4")).collect()),
+    }
+}
+
+/// As many keys as a key directory may have.
+fn fill_up(keys: &mut Keys, random: &mut Random) {
+    let mut key = 40_000;
+    while keys.list.len() < 256 {
+        keys.set(key, Held::Number(random.draw() as u16));
+        key += 1;
+    }
+}
+
+/// An array that lies over the header or the entries of the key directory.
+fn over_header(keys: &mut Keys, random: &mut Random) {
+    let index = random.below(4 + 4 * keys.list.len() as u64) as u16;
+    let count = random.within(1, 4) as u16;
+    keys.set(60001, Held::Raw(34735, count, index));
+}
+
+/// Entries outside the table, of known and of unknown types.
+fn unknown_tags(plan: &mut Plan, random: &mut Random) {
+    for _ in 0..random.below(4) {
+        let tag = random.pick(&UNKNOWN_TAGS);
+        let count = random.pick(&[1, 2, 3, 4, 5, 6]);
+        let field = [random.draw() as u8, random.draw() as u8, 0xFF, 0xFF];
+        plan.set(match random.below(6) {
+            0 => Tag::bytes(tag, random.pick(&[1, 2, 6, 7]), &random.bytes(count)),
+            1 => Tag::shorts(tag, &vec![random.draw() as u16; count]),
+            2 => Tag::longs(tag, &vec![random.draw() as u32; count]),
+            3 => Tag::double_bits(tag, &vec![random.draw(); count]),
+            4 => Tag::raw(tag, random.pick(&[0, 13, 14, 256, 65_535]), 0, field),
+            _ => Tag::raw(tag, random.pick(&[0, 13, 16, 65_535]), random.draw() as u32, field),
+        });
+    }
+}
+
+/// The order of the pieces and the free bytes between them.
+fn arrange(plan: &mut Plan, random: &mut Random) {
+    plan.gap = random.pick(&[(0, 0), (0, 0), (0, 1), (0, 3), (1, 4)]);
+    if random.chance(60) {
+        plan.shuffle = Some(random.draw());
+    }
+    match random.below(4) {
+        0 => plan.first = vec![Piece::Directory],
+        1 => plan.last = vec![Piece::Directory],
+        _ => {}
+    }
+}
+
+/// Lets strips overlap, lie over an unknown tag's value, and lets values that
+/// may be anything lie over other values or over the directory.
+fn share_values(laid: &mut Laid, random: &mut Random) {
+    let spots = laid.spots.clone();
+    let hosts: Vec<(usize, usize)> = spots
+        .iter()
+        .filter(|spot| spot.size > 4 && [33922, 34264, 34735].contains(&spot.tag))
+        .map(|spot| (spot.value, spot.size))
+        .chain([(laid.directory, 2 + 12 * spots.len() + 4)])
+        .collect();
+    for spot in spots.iter().filter(|s| [34736, 50909].contains(&s.tag) && s.size > 4) {
+        let (at, size) = random.pick(&hosts);
+        if spot.size <= size {
+            laid.put_long(spot.entry + 8, at as u32);
+        }
+    }
+    let strip = laid.strips[laid.strips.len() - 1];
+    for spot in spots.iter().filter(|s| UNKNOWN_TAGS.contains(&s.tag) && s.size > 4) {
+        if strip.0.is_multiple_of(2) && strip.0 as usize + spot.size <= laid.n() {
+            laid.put_long(spot.entry + 8, strip.0);
+        }
+    }
+    if random.chance(50) {
+        overlap_strips(laid);
+    }
+}
+
+/// Gives every strip the offset of the first, as far as its bytes reach.
+fn overlap_strips(laid: &mut Laid) {
+    let (first, room) = laid.strips[0];
+    let (offsets, counts) = (laid.spot(273), laid.spot(279));
+    let strips = laid.strips.len();
+    for i in 1..strips {
+        let count = laid.strips[i].1.min(room);
+        laid.put_number(offsets.value, offsets.size == 4 * strips, i, first);
+        laid.put_number(counts.value, counts.size == 4 * strips, i, count);
+    }
+}

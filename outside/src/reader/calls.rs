@@ -1,0 +1,249 @@
+//! The calls on a file: each gives rules 1 to 22 first, then its own.
+
+use super::block;
+use super::clauses::registered;
+use super::directory::{Directory, Entry};
+use super::ground::{corners, rules20to21, Georeference};
+use super::keys::{number_of, rules15to19, KeyEntry, Runs};
+use super::strips::{rule13, rule14};
+use super::tables::*;
+use super::tags::{rule10, rule11, rule12, rule9};
+use super::verdict::{refuse, Refusal, Verdict, ACCEPTED};
+
+/// What an accepted file holds.
+pub struct Accepted<'a> {
+    pub directory: Directory<'a>,
+    pub runs: Runs<'a>,
+    pub keys: Vec<KeyEntry>,
+    pub georeference: Georeference,
+    pub corners: [f64; 4],
+}
+
+/// Rules 1 to 22, in order of number.
+pub fn examine(file: &[u8]) -> Result<Accepted<'_>, Refusal> {
+    let directory = Directory::open(file)?;
+    directory.rule6()?;
+    directory.rule7()?;
+    directory.rule8()?;
+    rule9(&directory)?;
+    rule10(&directory)?;
+    rule11(&directory)?;
+    rule12(&directory)?;
+    rule13(&directory)?;
+    rule14(&directory)?;
+    let runs = runs(&directory);
+    let keys = rules15to19(&runs)?;
+    let georeference = rules20to21(&directory)?;
+    let raster = number_of(&keys, RASTER).expect("rule 18 is kept");
+    let corners = corners(&directory, raster, &georeference)?;
+    Ok(Accepted { directory, runs, keys, georeference, corners })
+}
+
+/// The values of 34735, 34736 and 34737; rules 9 and 10 are kept.
+fn runs<'a>(directory: &Directory<'a>) -> Runs<'a> {
+    let run = |tag: u16| directory.find(tag).map(|entry| directory.bytes(entry));
+    Runs {
+        order: directory.order,
+        directory: run(KEY_DIRECTORY).expect("rule 9 is kept"),
+        doubles: run(DOUBLES),
+        characters: run(CHARACTERS),
+    }
+}
+
+/// The answer on a whole file.
+#[derive(Clone, Copy, Debug, PartialEq)]
+pub struct Judged {
+    pub verdict: Verdict,
+    pub keys: u32,
+    pub georeference: Georeference,
+    pub corners: [f64; 4],
+}
+
+/// The verdict on a file, K, the georeference and the corners.
+pub fn judge(file: &[u8]) -> Judged {
+    match examine(file) {
+        Ok(accepted) => Judged {
+            verdict: ACCEPTED,
+            keys: accepted.keys.len() as u32,
+            georeference: accepted.georeference,
+            corners: accepted.corners,
+        },
+        Err(refusal) => Judged {
+            verdict: refusal.verdict,
+            keys: 0,
+            georeference: Georeference::Scaled([0.0; 6]),
+            corners: [0.0; 4],
+        },
+    }
+}
+
+/// The verdict and the clause behind it.
+fn named<T>(outcome: Result<T, Refusal>) -> (Verdict, &'static str) {
+    match outcome {
+        Ok(_) => (ACCEPTED, "accepted"),
+        Err(refusal) => (refusal.verdict, registered(&refusal.clause)),
+    }
+}
+
+pub fn judge_clause(file: &[u8]) -> (Verdict, &'static str) {
+    named(examine(file))
+}
+
+/// One key row: kind 0 SHORT, 1 DOUBLE, 2 ASCII, 3 other.
+#[derive(Clone, Copy, Debug, PartialEq, Eq)]
+pub struct Row {
+    pub key: u32,
+    pub kind: u32,
+    pub first: u32,
+    pub length: u32,
+}
+
+impl Accepted<'_> {
+    /// The first byte in the file of the value of a present tag.
+    fn start(&self, tag: u16) -> u64 {
+        let entry = self.directory.find(tag).expect("rule 17 is kept");
+        entry.value().expect("rule 10 is kept").start
+    }
+
+    /// The row of the key at `position` in the key directory.
+    fn row(&self, position: usize) -> Row {
+        let entry = &self.keys[position];
+        let (index, count) = (u64::from(entry.index), u64::from(entry.count));
+        let (first, length) = match entry.location {
+            0 => (self.start(KEY_DIRECTORY) + 8 + 8 * position as u64 + 6, 2),
+            KEY_DIRECTORY => (self.start(KEY_DIRECTORY) + 2 * index, 2 * count),
+            DOUBLES => (self.start(DOUBLES) + 8 * index, 8 * count),
+            _ => (self.start(CHARACTERS) + index, count),
+        };
+        Row {
+            key: u32::from(entry.key),
+            kind: kind_of(entry.key) as u32,
+            first: first as u32,
+            length: length as u32,
+        }
+    }
+
+    pub fn rows(&self) -> Vec<Row> {
+        (0..self.keys.len()).map(|position| self.row(position)).collect()
+    }
+}
+
+/// Rules 1 to 22, then 23: the rows of a file for `lent` rows of room.
+fn rows_for(file: &[u8], lent: usize) -> Result<Vec<Row>, Refusal> {
+    let rows = examine(file)?.rows();
+    if lent < rows.len() {
+        return refuse(23, rows.len() as u32, "fewer rows than K");
+    }
+    Ok(rows)
+}
+
+/// Fills the first K lent rows and gives K.
+pub fn key_rows(file: &[u8], lent: &mut [Row]) -> (Verdict, u32) {
+    match rows_for(file, lent.len()) {
+        Ok(rows) => {
+            lent[..rows.len()].copy_from_slice(&rows);
+            (ACCEPTED, rows.len() as u32)
+        }
+        Err(refusal) => (refusal.verdict, 0),
+    }
+}
+
+pub fn key_rows_clause(file: &[u8], lent: usize) -> (Verdict, &'static str) {
+    named(rows_for(file, lent))
+}
+
+/// A citation as the part of the file that holds it.
+#[derive(Clone, Copy, Debug, PartialEq, Eq)]
+pub struct Cited {
+    pub verdict: Verdict,
+    pub start: usize,
+    pub length: usize,
+}
+
+/// Rules 1 to 22, then 26: the row of the ASCII key asked for.
+fn cited_row(file: &[u8], key: u32) -> Result<Row, Refusal> {
+    let rows = examine(file)?.rows();
+    let found = rows.iter().find(|row| row.key == key);
+    let ascii = KEYS.iter().any(|row| u32::from(row.key) == key && row.kind == Kind::Ascii);
+    match (found, ascii) {
+        (Some(row), true) => Ok(*row),
+        (None, true) => refuse(26, key, "ASCII key absent"),
+        (Some(_), false) => refuse(26, key, "present key not ASCII"),
+        (None, false) => refuse(26, key, "neither present nor ASCII"),
+    }
+}
+
+/// The text of an ASCII key, less its final "|".
+pub fn citation(file: &[u8], key: u32) -> Cited {
+    match cited_row(file, key) {
+        Ok(row) => {
+            let (start, length) = (row.first as usize, row.length as usize - 1);
+            Cited { verdict: ACCEPTED, start, length }
+        }
+        Err(refusal) => Cited { verdict: refusal.verdict, start: 0, length: 0 },
+    }
+}
+
+pub fn citation_clause(file: &[u8], key: u32) -> (Verdict, &'static str) {
+    named(cited_row(file, key))
+}
+
+/// The metadata text as a part of the file (0) or of the outside text (1).
+#[derive(Clone, Copy, Debug, PartialEq, Eq)]
+pub struct Text {
+    pub verdict: Verdict,
+    pub from: u32,
+    pub start: usize,
+    pub length: usize,
+}
+
+/// The value of 50909 where present, else the whole outside text.
+pub fn metadata(file: &[u8], outside: &[u8]) -> Text {
+    let accepted = match examine(file) {
+        Ok(accepted) => accepted,
+        Err(refusal) => return Text { verdict: refusal.verdict, from: 0, start: 0, length: 0 },
+    };
+    match accepted.directory.find(METADATA).and_then(Entry::value) {
+        Some(value) => Text {
+            verdict: ACCEPTED,
+            from: 0,
+            start: value.start as usize,
+            length: (value.end - value.start) as usize,
+        },
+        None => Text { verdict: ACCEPTED, from: 1, start: 0, length: outside.len() },
+    }
+}
+
+/// The lengths in bytes of the three runs of a key block.
+#[derive(Clone, Copy, Debug, PartialEq, Eq)]
+pub struct Block {
+    pub verdict: Verdict,
+    pub lengths: [usize; 3],
+}
+
+/// Rules 1 to 22, then 24, then 25: the three runs of the key block.
+fn block_for(file: &[u8], room: usize) -> Result<[Vec<u8>; 3], Refusal> {
+    let accepted = examine(file)?;
+    let runs = block::write(&accepted.runs, &accepted.keys)?;
+    let bytes: usize = runs.iter().map(Vec::len).sum();
+    if room < bytes {
+        return refuse(25, bytes as u32, "output too short");
+    }
+    Ok(runs)
+}
+
+/// Writes the key block at the start of `out`.
+pub fn key_block(file: &[u8], out: &mut [u8]) -> Block {
+    match block_for(file, out.len()) {
+        Ok(runs) => {
+            let whole = runs.concat();
+            out[..whole.len()].copy_from_slice(&whole);
+            Block { verdict: ACCEPTED, lengths: [runs[0].len(), runs[1].len(), runs[2].len()] }
+        }
+        Err(refusal) => Block { verdict: refusal.verdict, lengths: [0; 3] },
+    }
+}
+
+pub fn key_block_clause(file: &[u8], room: usize) -> (Verdict, &'static str) {
+    named(block_for(file, room))
+}

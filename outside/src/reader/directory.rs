@@ -1,0 +1,180 @@
+//! The head and the directory of the file: rules 1 to 8.
+
+use super::number::{index, long, short, size_of_type, Order};
+use super::tables::{LONGEST, MOST_ENTRIES};
+use super::verdict::{refuse, Refusal};
+use std::ops::Range;
+
+/// One entry of the directory.
+#[derive(Clone, Debug)]
+pub struct Entry {
+    /// The entry's first byte in the file.
+    pub at: u64,
+    pub tag: u16,
+    pub kind: u16,
+    pub count: u32,
+    /// The last four bytes of the entry, read as an offset.
+    pub offset: u32,
+}
+
+impl Entry {
+    /// The bytes of the file that hold the value; none for an unknown type.
+    pub fn value(&self) -> Option<Range<u64>> {
+        let size = size_of_type(self.kind)? * u64::from(self.count);
+        let start = if size <= 4 { self.at + 8 } else { u64::from(self.offset) };
+        Some(start..start + size)
+    }
+
+    pub fn in_entry(&self) -> bool {
+        self.value().is_some_and(|value| value.end - value.start <= 4)
+    }
+}
+
+/// The directory of a file that keeps rules 1 to 5.
+#[derive(Clone, Debug)]
+pub struct Directory<'a> {
+    pub file: &'a [u8],
+    pub order: Order,
+    pub at: u64,
+    pub entries: Vec<Entry>,
+    pub next: u32,
+}
+
+impl<'a> Directory<'a> {
+    /// Rules 1 to 5.
+    pub fn open(file: &'a [u8]) -> Result<Self, Refusal> {
+        let (order, at) = head(file)?;
+        let count = rule5(file, order, at)?;
+        let entries = (0..count).map(|number| entry(file, order, at + 2 + 12 * number)).collect();
+        let next = long(order, file, at + 2 + 12 * count);
+        Ok(Directory { file, order, at, entries, next })
+    }
+
+    pub fn n(&self) -> u64 {
+        self.file.len() as u64
+    }
+
+    /// The whole directory, with its count and its next offset.
+    pub fn range(&self) -> Range<u64> {
+        self.at..self.at + 2 + 12 * self.entries.len() as u64 + 4
+    }
+
+    pub fn find(&self, tag: u16) -> Option<&Entry> {
+        self.entries.iter().find(|entry| entry.tag == tag)
+    }
+
+    /// The value bytes of a present tag of a type from 1 to 12.
+    pub fn bytes(&self, entry: &Entry) -> &'a [u8] {
+        let value = entry.value().expect("rule 10 is kept");
+        &self.file[index(value.start)..index(value.end)]
+    }
+
+    /// Rule 6: each tag is greater than the one before.
+    pub fn rule6(&self) -> Result<(), Refusal> {
+        for pair in self.entries.windows(2) {
+            let later = u32::from(pair[1].tag);
+            if pair[1].tag == pair[0].tag {
+                return refuse(6, later, "equal tag");
+            }
+            if pair[1].tag < pair[0].tag {
+                return refuse(6, later, "smaller tag");
+            }
+        }
+        Ok(())
+    }
+
+    /// Rule 7: every value of types 1 to 12 has elements and lies in the file.
+    pub fn rule7(&self) -> Result<(), Refusal> {
+        for entry in &self.entries {
+            if let Some(what) = value_fault(entry, self.n()) {
+                let clause = format!("type {} {what}", entry.kind);
+                return refuse(7, u32::from(entry.tag), &clause);
+            }
+        }
+        Ok(())
+    }
+
+    /// Rule 8: no further directory.
+    pub fn rule8(&self) -> Result<(), Refusal> {
+        if self.next != 0 {
+            return refuse(8, 0, "next offset");
+        }
+        Ok(())
+    }
+}
+
+/// Rules 1 to 4: the byte order and the directory's offset.
+pub fn head(file: &[u8]) -> Result<(Order, u64), Refusal> {
+    let n = file.len() as u64;
+    if n < 8 {
+        return refuse(1, 0, "n below 8");
+    }
+    if n > LONGEST {
+        return refuse(1, 0, "n above 4294967295");
+    }
+    let order = match (file[0], file[1]) {
+        (0x49, 0x49) => Order::Little,
+        (0x4D, 0x4D) => Order::Big,
+        _ => return refuse(2, 0, "neither order"),
+    };
+    if short(order, file, 2) != 42 {
+        return refuse(3, 0, "not 42");
+    }
+    let at = u64::from(long(order, file, 4));
+    if at % 2 != 0 {
+        return refuse(4, 0, "odd");
+    }
+    if at < 8 {
+        return refuse(4, 0, "below 8");
+    }
+    if at + 2 > n {
+        return refuse(4, 0, "past n");
+    }
+    Ok((order, at))
+}
+
+/// Rule 5: the number of entries.
+fn rule5(file: &[u8], order: Order, at: u64) -> Result<u64, Refusal> {
+    let count = u64::from(short(order, file, at));
+    if count == 0 {
+        return refuse(5, 0, "c is 0");
+    }
+    if count > MOST_ENTRIES {
+        return refuse(5, 0, "c above 1024");
+    }
+    if at + 2 + 12 * count + 4 > file.len() as u64 {
+        return refuse(5, 0, "past n");
+    }
+    Ok(count)
+}
+
+fn entry(file: &[u8], order: Order, at: u64) -> Entry {
+    Entry {
+        at,
+        tag: short(order, file, at),
+        kind: short(order, file, at + 2),
+        count: long(order, file, at + 4),
+        offset: long(order, file, at + 8),
+    }
+}
+
+/// What rule 7 finds wrong with an entry.
+fn value_fault(entry: &Entry, n: u64) -> Option<&'static str> {
+    let value = entry.value()?;
+    if entry.count == 0 {
+        return Some("count 0");
+    }
+    if entry.in_entry() {
+        return None;
+    }
+    if value.start % 2 != 0 {
+        return Some("odd");
+    }
+    if value.start < 8 {
+        return Some("below 8");
+    }
+    if value.end > n {
+        return Some("past n");
+    }
+    None
+}

@@ -1,0 +1,103 @@
+//! The tags of the table: rules 9 to 12.
+
+use super::directory::{Directory, Entry};
+use super::number::{long, short};
+use super::tables::*;
+use super::verdict::{refuse, Refusal};
+
+/// The numbers of a SHORT or LONG tag.
+pub fn numbers(directory: &Directory, entry: &Entry) -> Vec<u32> {
+    let bytes = directory.bytes(entry);
+    let (order, count) = (directory.order, u64::from(entry.count));
+    match entry.kind {
+        SHORT => (0..count).map(|i| u32::from(short(order, bytes, 2 * i))).collect(),
+        _ => (0..count).map(|i| long(order, bytes, 4 * i)).collect(),
+    }
+}
+
+/// The numbers of a needed tag.
+pub fn needed(directory: &Directory, tag: u16) -> Vec<u32> {
+    numbers(directory, directory.find(tag).expect("rule 9 is kept"))
+}
+
+/// The one number of a needed tag of count 1.
+pub fn one(directory: &Directory, tag: u16) -> u32 {
+    needed(directory, tag)[0]
+}
+
+/// Rule 9: every needed tag is present.
+pub fn rule9(directory: &Directory) -> Result<(), Refusal> {
+    for row in TAGS.iter().filter(|row| row.needed) {
+        if directory.find(row.tag).is_none() {
+            return refuse(9, u32::from(row.tag), &format!("{} absent", row.tag));
+        }
+    }
+    Ok(())
+}
+
+/// The present tags of the table, lowest first.
+fn present<'d>(directory: &'d Directory) -> impl Iterator<Item = (&'static TagRow, &'d Entry)> {
+    TAGS.iter().filter_map(|row| Some((row, directory.find(row.tag)?)))
+}
+
+/// Rule 10: each present tag of the table has its type and count.
+pub fn rule10(directory: &Directory) -> Result<(), Refusal> {
+    for (row, entry) in present(directory) {
+        let place = u32::from(row.tag);
+        if !row.kinds.contains(&entry.kind) {
+            return refuse(10, place, &format!("{} type", row.tag));
+        }
+        if !row.count.holds(entry.count) {
+            return refuse(10, place, &format!("{} count", row.tag));
+        }
+    }
+    Ok(())
+}
+
+/// Rule 11: each value of a present tag is allowed.
+pub fn rule11(directory: &Directory) -> Result<(), Refusal> {
+    for (row, entry) in present(directory).filter(|(row, _)| row.allowed.is_some()) {
+        for number in numbers(directory, entry) {
+            if let Some(side) = outside(row.allowed, number) {
+                return refuse(11, u32::from(row.tag), &format!("{} {side}", row.tag));
+            }
+        }
+    }
+    Ok(())
+}
+
+/// Rule 12: the tags agree with each other.
+pub fn rule12(directory: &Directory) -> Result<(), Refusal> {
+    let bits = needed(directory, BITS);
+    let samples = one(directory, SAMPLES);
+    if bits.len() as u64 != u64::from(samples) {
+        return refuse(12, u32::from(BITS), "258 count is not samples");
+    }
+    if bits.iter().any(|&each| each != bits[0]) {
+        return refuse(12, u32::from(BITS), "258 values differ");
+    }
+    let compression = one(directory, COMPRESSION);
+    if compression != 1 && bits[0] != 1 {
+        return refuse(12, u32::from(COMPRESSION), &format!("259 is {compression}, bits not 1"));
+    }
+    if compression != 1 && samples != 1 {
+        return refuse(12, u32::from(COMPRESSION), &format!("259 is {compression}, samples not 1"));
+    }
+    let strips = strips_needed(one(directory, LENGTH), one(directory, ROWS_PER_STRIP));
+    for tag in [STRIP_OFFSETS, STRIP_BYTE_COUNTS] {
+        let count = u64::from(directory.find(tag).expect("rule 9 is kept").count);
+        if count < strips {
+            return refuse(12, u32::from(tag), &format!("{tag} too few"));
+        }
+        if count > strips {
+            return refuse(12, u32::from(tag), &format!("{tag} too many"));
+        }
+    }
+    Ok(())
+}
+
+/// Length / rows per strip, rounded up.
+fn strips_needed(length: u32, rows_per_strip: u32) -> u64 {
+    let (length, rows) = (u64::from(length), u64::from(rows_per_strip));
+    length / rows + u64::from(length % rows != 0)
+}

@@ -1,0 +1,284 @@
+//! The variety of accepted files: labels that the coverage table counts, so
+//! that the generator cannot quietly stop making a kind of file.
+
+use super::calls::{examine, Accepted};
+use super::directory::Entry;
+use super::ground::Georeference;
+use super::keys::number_of;
+use super::number::Order;
+use super::strips::{share, strips};
+use super::tables::*;
+use super::tags::{needed, one};
+use std::ops::Range;
+
+/// Every label an accepted file can carry.
+pub const VARIETIES: &[&str] = &[
+    "little-endian",
+    "big-endian",
+    "256 SHORT",
+    "256 LONG",
+    "257 SHORT",
+    "257 LONG",
+    "273 SHORT",
+    "273 LONG",
+    "278 SHORT",
+    "278 LONG",
+    "279 SHORT",
+    "279 LONG",
+    "258 in its entry",
+    "258 at an offset",
+    "273 in its entry",
+    "273 at an offset",
+    "279 in its entry",
+    "279 at an offset",
+    "34737 in its entry",
+    "34737 at an offset",
+    "34737 absent",
+    "34736 at an offset",
+    "34736 absent",
+    "50909 in its entry",
+    "50909 at an offset",
+    "50909 absent",
+    "284 present",
+    "284 absent",
+    "unknown tag",
+    "unknown type",
+    "unknown type with count 0",
+    "directory before all values",
+    "directory after all values",
+    "directory among the values",
+    "directory ends at n",
+    "a value ends at n",
+    "a strip ends at n",
+    "values share bytes",
+    "a value over the directory",
+    "one strip",
+    "many strips",
+    "strips overlap",
+    "strip at an odd offset",
+    "strip ends where the list starts",
+    "strip starts where the list ends",
+    "strip over an unknown tag's value",
+    "bits 1",
+    "bits 8",
+    "bits 16",
+    "bits 32",
+    "one sample",
+    "many samples",
+    "compression 1",
+    "compression 2",
+    "compression 32773",
+    "PixelIsArea",
+    "PixelIsPoint",
+    "projected",
+    "geographic",
+    "key SHORT at 0",
+    "key DOUBLE at 34736",
+    "key ASCII at 34737",
+    "key other at 0",
+    "key other at 34735",
+    "key other at 34736",
+    "key other at 34737",
+    "empty citation",
+    "citation in a directory entry",
+    "array over the key header or entries",
+    "key values share elements",
+    "key values out of order",
+    "key directory with spare numbers",
+    "key 0",
+    "key 65535",
+    "K 256",
+    "scaled",
+    "affine",
+    "affine with rotation",
+    "georeference with -0",
+    "corner -0",
+];
+
+/// The labels of a file; none for a refused one.
+pub fn varieties(file: &[u8]) -> Vec<&'static str> {
+    let Ok(accepted) = examine(file) else { return Vec::new() };
+    let mut labels = Vec::new();
+    labels.extend(of_tags(&accepted));
+    labels.extend(of_layout(&accepted));
+    labels.extend(of_strips(&accepted));
+    labels.extend(of_picture(&accepted));
+    labels.extend(of_keys(&accepted));
+    labels.extend(of_key_values(&accepted));
+    labels.extend(of_ground(&accepted));
+    let mut found: Vec<&'static str> = labels.iter().map(|label| label_of(label)).collect();
+    found.sort_unstable();
+    found.dedup();
+    found
+}
+
+fn label_of(label: &str) -> &'static str {
+    VARIETIES.iter().find(|known| **known == label).copied().unwrap_or("unregistered variety")
+}
+
+/// The labels whose condition holds.
+fn chosen(labels: &[(bool, &str)]) -> Vec<String> {
+    labels.iter().filter(|(holds, _)| *holds).map(|(_, label)| label.to_string()).collect()
+}
+
+fn of_tags(accepted: &Accepted) -> Vec<String> {
+    let directory = &accepted.directory;
+    let mut labels = Vec::new();
+    for tag in [WIDTH, LENGTH, STRIP_OFFSETS, ROWS_PER_STRIP, STRIP_BYTE_COUNTS] {
+        let kind = directory.find(tag).map_or(0, |entry| entry.kind);
+        labels.push(format!("{tag} {}", if kind == SHORT { "SHORT" } else { "LONG" }));
+    }
+    for tag in [BITS, STRIP_OFFSETS, STRIP_BYTE_COUNTS, CHARACTERS, DOUBLES, METADATA] {
+        labels.push(match directory.find(tag) {
+            None => format!("{tag} absent"),
+            Some(entry) if entry.in_entry() => format!("{tag} in its entry"),
+            Some(_) => format!("{tag} at an offset"),
+        });
+    }
+    let unknown = |entry: &&Entry| !TAGS.iter().any(|row| row.tag == entry.tag);
+    let planar = directory.find(PLANAR).is_some();
+    labels.extend(chosen(&[
+        (directory.order == Order::Little, "little-endian"),
+        (directory.order == Order::Big, "big-endian"),
+        (planar, "284 present"),
+        (!planar, "284 absent"),
+        (directory.entries.iter().any(|e| unknown(&e)), "unknown tag"),
+        (directory.entries.iter().any(|e| e.value().is_none()), "unknown type"),
+        (
+            directory.entries.iter().any(|e| e.value().is_none() && e.count == 0),
+            "unknown type with count 0",
+        ),
+    ]));
+    labels
+}
+
+/// The values outside their entries, of table tags or of the others.
+fn values(accepted: &Accepted, in_table: bool) -> Vec<Range<u64>> {
+    let known = |tag: u16| TAGS.iter().any(|row| row.tag == tag);
+    let entries = accepted.directory.entries.iter();
+    let wanted = entries.filter(|e| known(e.tag) == in_table && !e.in_entry());
+    wanted.filter_map(Entry::value).collect()
+}
+
+fn pairwise_share(ranges: &[Range<u64>]) -> bool {
+    let later = |at: usize| ranges[at + 1..].iter().any(|other| share(&ranges[at], other));
+    (0..ranges.len()).any(later)
+}
+
+fn of_layout(accepted: &Accepted) -> Vec<String> {
+    let (directory, n) = (accepted.directory.range(), accepted.directory.n());
+    let values = values(accepted, true);
+    let before = values.iter().all(|value| directory.end <= value.start);
+    let after = values.iter().all(|value| value.end <= directory.start);
+    chosen(&[
+        (before, "directory before all values"),
+        (after, "directory after all values"),
+        (!before && !after, "directory among the values"),
+        (directory.end == n, "directory ends at n"),
+        (values.iter().any(|value| value.end == n), "a value ends at n"),
+        (pairwise_share(&values), "values share bytes"),
+        (values.iter().any(|value| share(value, &directory)), "a value over the directory"),
+    ])
+}
+
+fn of_strips(accepted: &Accepted) -> Vec<String> {
+    let strips = strips(&accepted.directory);
+    let mut list = values(accepted, true);
+    list.push(accepted.directory.range());
+    let unknown = values(accepted, false);
+    let any = |test: &dyn Fn(&Range<u64>) -> bool| strips.iter().any(test);
+    chosen(&[
+        (strips.len() == 1, "one strip"),
+        (strips.len() > 1, "many strips"),
+        (pairwise_share(&strips), "strips overlap"),
+        (any(&|strip| strip.start % 2 == 1), "strip at an odd offset"),
+        (any(&|strip| strip.end == accepted.directory.n()), "a strip ends at n"),
+        (
+            any(&|strip| list.iter().any(|part| part.start == strip.end)),
+            "strip ends where the list starts",
+        ),
+        (
+            any(&|strip| list.iter().any(|part| part.end == strip.start)),
+            "strip starts where the list ends",
+        ),
+        (
+            any(&|strip| unknown.iter().any(|value| share(strip, value))),
+            "strip over an unknown tag's value",
+        ),
+    ])
+}
+
+fn of_picture(accepted: &Accepted) -> Vec<String> {
+    let samples = one(&accepted.directory, SAMPLES);
+    vec![
+        format!("bits {}", needed(&accepted.directory, BITS)[0]),
+        format!("compression {}", one(&accepted.directory, COMPRESSION)),
+        format!("{} sample{}", if samples == 1 { "one" } else { "many" }, plural(samples)),
+    ]
+}
+
+fn plural(number: u32) -> &'static str {
+    if number == 1 {
+        ""
+    } else {
+        "s"
+    }
+}
+
+fn of_keys(accepted: &Accepted) -> Vec<String> {
+    let keys = &accepted.keys;
+    let mut labels: Vec<String> = keys
+        .iter()
+        .map(|entry| format!("key {} at {}", kind_of(entry.key).word(), entry.location))
+        .collect();
+    let ascii = |key: u16| kind_of(key) == Kind::Ascii;
+    let in_entry = accepted.directory.find(CHARACTERS).is_some_and(Entry::in_entry);
+    let numbers = accepted.runs.directory.len() / 2;
+    labels.extend(chosen(&[
+        (number_of(keys, RASTER) == Some(1), "PixelIsArea"),
+        (number_of(keys, RASTER) == Some(2), "PixelIsPoint"),
+        (number_of(keys, MODEL) == Some(1), "projected"),
+        (number_of(keys, MODEL) == Some(2), "geographic"),
+        (keys.iter().any(|e| ascii(e.key) && e.count == 1), "empty citation"),
+        (in_entry && keys.iter().any(|e| ascii(e.key)), "citation in a directory entry"),
+        (keys.iter().any(|e| e.key == 0), "key 0"),
+        (keys.iter().any(|e| e.key == 65535), "key 65535"),
+        (keys.len() == 256, "K 256"),
+        (numbers > 4 + 4 * keys.len(), "key directory with spare numbers"),
+    ]));
+    labels
+}
+
+fn of_key_values(accepted: &Accepted) -> Vec<String> {
+    let keys = &accepted.keys;
+    let header = 4 + 4 * keys.len() as u64;
+    let (mut shared, mut unordered, mut over_header) = (false, false, false);
+    for location in [KEY_DIRECTORY, DOUBLES, CHARACTERS] {
+        let held = keys.iter().filter(|entry| entry.location == location);
+        let ranges: Vec<Range<u64>> =
+            held.map(|e| u64::from(e.index)..u64::from(e.index) + u64::from(e.count)).collect();
+        shared |= pairwise_share(&ranges);
+        unordered |= ranges.windows(2).any(|pair| pair[1].start < pair[0].start);
+        over_header |= location == KEY_DIRECTORY && ranges.iter().any(|r| r.start < header);
+    }
+    chosen(&[
+        (shared, "key values share elements"),
+        (unordered, "key values out of order"),
+        (over_header, "array over the key header or entries"),
+    ])
+}
+
+fn of_ground(accepted: &Accepted) -> Vec<String> {
+    let negative_zero = |double: &f64| *double == 0.0 && double.is_sign_negative();
+    let (affine, six) = match accepted.georeference {
+        Georeference::Scaled(six) => (false, six),
+        Georeference::Affine(six) => (true, six),
+    };
+    chosen(&[
+        (!affine, "scaled"),
+        (affine, "affine"),
+        (affine && (six[1] != 0.0 || six[3] != 0.0), "affine with rotation"),
+        (six.iter().any(negative_zero), "georeference with -0"),
+        (accepted.corners.iter().any(negative_zero), "corner -0"),
+    ])
+}

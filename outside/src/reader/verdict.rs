@@ -1,0 +1,23 @@
+//! The verdict every call gives, and a refusal with the clause that made it.
+
+/// Number 0 accepts; any other number is the first broken rule, at its place.
+#[derive(Clone, Copy, Debug, PartialEq, Eq)]
+pub struct Verdict {
+    pub number: u32,
+    pub place: u32,
+}
+
+/// The verdict of a file, or call, that breaks nothing.
+pub const ACCEPTED: Verdict = Verdict { number: 0, place: 0 };
+
+/// A refusal, and in words which clause of the rule was broken.
+#[derive(Clone, Debug)]
+pub struct Refusal {
+    pub verdict: Verdict,
+    pub clause: String,
+}
+
+/// Refuses by rule `number` at `place`; `what` names the clause.
+pub fn refuse<T>(number: u32, place: u32, what: &str) -> Result<T, Refusal> {
+    Err(Refusal { verdict: Verdict { number, place }, clause: format!("{number} {what}") })
+}

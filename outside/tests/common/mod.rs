@@ -1,0 +1,85 @@
+//! File A of document 01 by its bytes, and what several tests share.
+#![allow(dead_code)]
+
+use outside::generator::keyplan::Encoded;
+use outside::generator::plan::{Plan, Tag};
+use outside::reader::{Order, Row, Verdict};
+
+/// File A, byte by byte: 270 bytes, little-endian.
+pub const FILE_A: [u8; 270] = [
+    // The head: 49 49, the number 42, the directory at 8.
+    0x49, 0x49, 42, 0, 8, 0, 0, 0, //
+    // 8: twelve entries of tag, type, count and value or offset.
+    12, 0, //
+    0x00, 0x01, 3, 0, 1, 0, 0, 0, 4, 0, 0, 0, // 256 = 4
+    0x01, 0x01, 3, 0, 1, 0, 0, 0, 2, 0, 0, 0, // 257 = 2
+    0x02, 0x01, 3, 0, 1, 0, 0, 0, 8, 0, 0, 0, // 258 = 8
+    0x03, 0x01, 3, 0, 1, 0, 0, 0, 1, 0, 0, 0, // 259 = 1
+    0x06, 0x01, 3, 0, 1, 0, 0, 0, 1, 0, 0, 0, // 262 = 1
+    0x11, 0x01, 3, 0, 1, 0, 0, 0, 0x06, 0x01, 0, 0, // 273 = 262
+    0x15, 0x01, 3, 0, 1, 0, 0, 0, 1, 0, 0, 0, // 277 = 1
+    0x16, 0x01, 3, 0, 1, 0, 0, 0, 2, 0, 0, 0, // 278 = 2
+    0x17, 0x01, 3, 0, 1, 0, 0, 0, 8, 0, 0, 0, // 279 = 8
+    0x0E, 0x83, 12, 0, 3, 0, 0, 0, 158, 0, 0, 0, // 33550 at 158
+    0x82, 0x84, 12, 0, 6, 0, 0, 0, 182, 0, 0, 0, // 33922 at 182
+    0xAF, 0x87, 3, 0, 16, 0, 0, 0, 230, 0, 0, 0, // 34735 at 230
+    // 154: the next offset.
+    0, 0, 0, 0, //
+    // 158: scale 0.5, 0.5, 0.
+    0, 0, 0, 0, 0, 0, 0xE0, 0x3F, 0, 0, 0, 0, 0, 0, 0xE0, 0x3F, 0, 0, 0, 0, 0, 0, 0, 0, //
+    // 182: tiepoint 0, 0, 0, 500000, 4000000, 0.
+    0, 0, 0, 0, 0, 0, 0, 0, 0, 0, 0, 0, 0, 0, 0, 0, 0, 0, 0, 0, 0, 0, 0, 0, //
+    0, 0, 0, 0, 0x80, 0x84, 0x1E, 0x41, 0, 0, 0, 0, 0x80, 0x84, 0x4E, 0x41, //
+    0, 0, 0, 0, 0, 0, 0, 0, //
+    // 230: 1, 1, 0, 3; then 1024 = 1, 1025 = 1, 3072 = 32633.
+    1, 0, 1, 0, 0, 0, 3, 0, //
+    0x00, 0x04, 0, 0, 1, 0, 1, 0, //
+    0x01, 0x04, 0, 0, 1, 0, 1, 0, //
+    0x00, 0x0C, 0, 0, 1, 0, 0x79, 0x7F, //
+    // 262: the strip.
+    0, 0, 0, 0, 0, 0, 0, 0,
+];
+
+/// Where parts of file A stand.
+pub const OFFSET_OF_STRIP: usize = 10 + 5 * 12 + 8;
+pub const NEXT_OFFSET: usize = 154;
+pub const SCALE: usize = 158;
+pub const TIEPOINT: usize = 182;
+pub const KEYS: usize = 230;
+
+/// File A with a few bytes changed.
+pub fn changed(at: usize, bytes: &[u8]) -> Vec<u8> {
+    let mut file = FILE_A.to_vec();
+    file[at..at + bytes.len()].copy_from_slice(bytes);
+    file
+}
+
+pub fn verdict(number: u32, place: u32) -> Verdict {
+    Verdict { number, place }
+}
+
+/// A row that no file gives, to see whether lent rows change.
+pub const UNTOUCHED: Row = Row { key: 7_777_777, kind: 88, first: 99, length: 66 };
+
+pub fn row(key: u32, kind: u32, first: u32, length: u32) -> Row {
+    Row { key, kind, first, length }
+}
+
+/// The four corner doubles by their bits.
+pub fn bits(corners: [f64; 4]) -> [u64; 4] {
+    corners.map(f64::to_bits)
+}
+
+/// A plan like file A in either order, with these keys and random free bytes.
+pub fn plan_like_a(order: Order, keys: &Encoded) -> Plan {
+    let mut plan = Plan::new(order);
+    (plan.fill, plan.dirty) = (9, true);
+    for (tag, number) in [(256, 4), (257, 2), (258, 8), (259, 1), (262, 1), (277, 1), (278, 2)] {
+        plan.set(Tag::shorts(tag, &[number]));
+    }
+    plan.set_strips(&[8], (true, true));
+    plan.set(Tag::doubles(33550, &[0.5, 0.5, 0.0]));
+    plan.set(Tag::doubles(33922, &[0.0, 0.0, 0.0, 500_000.0, 4_000_000.0, 0.0]));
+    plan.set_keys(keys);
+    plan
+}

@@ -1,0 +1,117 @@
+//! A refusal changes nothing in lent rows or output; lent sizes around the
+//! needed one; bytes and rows behind the answer stay.
+
+mod common;
+
+use common::*;
+use outside::generator::{random, targeted, Call, Case};
+use outside::reader::{citation, judge, key_block, key_rows, metadata, Cited, Row, Text, Verdict};
+
+/// The refused cases, at most `most` of each rule.
+fn refused(most: usize) -> Vec<Case> {
+    let mut seen = [0; 27];
+    let mut cases = targeted(31);
+    cases.retain(|case| {
+        let rule = case.want.number as usize;
+        seen[rule] += 1;
+        rule != 0 && seen[rule] <= most && matches!(case.call, Call::Judge)
+    });
+    cases
+}
+
+#[test]
+fn a_refusal_leaves_lent_memory_and_gives_zeros() {
+    for case in refused(60) {
+        let want = case.want;
+        for size in [0, 1, 3, 40, 300] {
+            let mut lent = vec![UNTOUCHED; size];
+            assert_eq!(key_rows(&case.file, &mut lent), (want, 0));
+            assert!(lent.iter().all(|row| *row == UNTOUCHED));
+            let mut out = vec![0x77; size];
+            let block = key_block(&case.file, &mut out);
+            assert_eq!((block.verdict, block.lengths), (want, [0; 3]));
+            assert!(out.iter().all(|byte| *byte == 0x77));
+        }
+        let nothing = Cited { verdict: want, start: 0, length: 0 };
+        assert_eq!(citation(&case.file, 1026), nothing);
+        let nothing = Text { verdict: want, from: 0, start: 0, length: 0 };
+        assert_eq!(metadata(&case.file, b"outside"), nothing);
+        assert_eq!(judge(&case.file).keys, 0);
+    }
+}
+
+/// The rows of an accepted file and its key block, each with room to spare.
+fn whole(file: &[u8]) -> (Vec<Row>, Vec<u8>) {
+    let mut rows = vec![UNTOUCHED; 256];
+    let (_, keys) = key_rows(file, &mut rows);
+    rows.truncate(keys as usize);
+    let mut out = vec![0; 1 << 16];
+    let lengths = key_block(file, &mut out).lengths;
+    out.truncate(lengths.iter().sum());
+    (rows, out)
+}
+
+#[test]
+fn lent_rows_around_k() {
+    for sample in random(32, 600).into_iter().filter(|sample| !sample.damaged) {
+        let (rows, _) = whole(&sample.file);
+        let k = rows.len();
+        for lent in [0, 1, k - 1, k, k + 1, k + 9] {
+            let mut run = vec![UNTOUCHED; lent];
+            let answer = key_rows(&sample.file, &mut run);
+            if lent < k {
+                assert_eq!(answer, (verdict(23, k as u32), 0));
+                assert!(run.iter().all(|row| *row == UNTOUCHED));
+            } else {
+                assert_eq!(answer, (verdict(0, 0), k as u32));
+                assert_eq!(run[..k], rows[..]);
+                assert!(run[k..].iter().all(|row| *row == UNTOUCHED));
+            }
+        }
+    }
+}
+
+#[test]
+fn output_around_the_length_needed() {
+    for sample in random(33, 600).into_iter().filter(|sample| !sample.damaged) {
+        let (_, bytes) = whole(&sample.file);
+        let needed = bytes.len();
+        for room in [0, 1, needed - 1, needed, needed + 1, needed + 50] {
+            let mut out = vec![0xAB; room];
+            let block = key_block(&sample.file, &mut out);
+            if room < needed {
+                assert_eq!(block.verdict, verdict(25, needed as u32));
+                assert_eq!(block.lengths, [0; 3]);
+                assert!(out.iter().all(|byte| *byte == 0xAB));
+            } else {
+                assert_eq!(block.verdict, verdict(0, 0));
+                assert_eq!(out[..needed], bytes[..]);
+                assert!(out[needed..].iter().all(|byte| *byte == 0xAB));
+            }
+        }
+    }
+}
+
+#[test]
+fn refusals_of_the_calls_leave_lent_memory() {
+    for case in targeted(34) {
+        let Call::Block(room) = case.call else { continue };
+        let mut out = vec![0x31; room];
+        let block = key_block(&case.file, &mut out);
+        assert_eq!(block.verdict, case.want);
+        if case.want != (Verdict { number: 0, place: 0 }) {
+            assert!(out.iter().all(|byte| *byte == 0x31));
+            assert_eq!(block.lengths, [0; 3]);
+        }
+    }
+}
+
+#[test]
+fn any_bytes_and_any_key_number_end() {
+    for sample in random(35, 3_000) {
+        for key in [0, 1026, 4097, 65_535, 65_536, u32::MAX] {
+            let cited = citation(&sample.file, key);
+            assert!(cited.start + cited.length <= sample.file.len());
+        }
+    }
+}

@@ -1,0 +1,141 @@
+//! The picture never shows: every byte off the reading list repainted at
+//! random, all answers stay the same, for files of every verdict.
+
+mod common;
+
+use common::UNTOUCHED;
+use outside::generator::prng::Random;
+use outside::generator::{random, targeted, Call};
+use outside::reader::{
+    citation, judge, key_block, key_rows, listed, metadata, Georeference, Row, Verdict,
+};
+use std::collections::{BTreeMap, BTreeSet};
+
+/// Every answer on a file, doubles by their bits and parts by their bytes.
+#[derive(Debug, PartialEq)]
+struct Answers {
+    verdict: Verdict,
+    keys: u32,
+    doubles: Vec<u64>,
+    affine: bool,
+    rows: Vec<(Verdict, u32, Vec<Row>)>,
+    texts: Vec<(Verdict, usize, Vec<u8>)>,
+    metadata: (Verdict, u32, usize, Vec<u8>),
+    blocks: Vec<(Verdict, [usize; 3], Vec<u8>)>,
+    list: Vec<bool>,
+}
+
+const ASKED: [u32; 8] = [1024, 1026, 2049, 3073, 4097, 60003, 65_535, 66_562];
+
+fn rows(file: &[u8], lent: usize) -> (Verdict, u32, Vec<Row>) {
+    let mut rows = vec![UNTOUCHED; lent];
+    let (verdict, keys) = key_rows(file, &mut rows);
+    (verdict, keys, rows)
+}
+
+fn text(file: &[u8], key: u32) -> (Verdict, usize, Vec<u8>) {
+    let cited = citation(file, key);
+    (cited.verdict, cited.start, file[cited.start..cited.start + cited.length].to_vec())
+}
+
+fn block(file: &[u8], room: usize) -> (Verdict, [usize; 3], Vec<u8>) {
+    let mut out = vec![0xC3; room];
+    let block = key_block(file, &mut out);
+    (block.verdict, block.lengths, out)
+}
+
+fn answers(file: &[u8]) -> Answers {
+    let judged = judge(file);
+    let (affine, six) = match judged.georeference {
+        Georeference::Scaled(six) => (false, six),
+        Georeference::Affine(six) => (true, six),
+    };
+    let outside = b"the outside text";
+    let text_of_file = metadata(file, outside);
+    let from: &[u8] = if text_of_file.from == 0 { file } else { outside };
+    let part = &from[text_of_file.start..text_of_file.start + text_of_file.length];
+    Answers {
+        verdict: judged.verdict,
+        keys: judged.keys,
+        doubles: six.iter().chain(&judged.corners).map(|double| double.to_bits()).collect(),
+        affine,
+        rows: [0, 2, 3, 12, 256].iter().map(|&lent| rows(file, lent)).collect(),
+        texts: ASKED.iter().map(|&key| text(file, key)).collect(),
+        metadata: (text_of_file.verdict, text_of_file.from, text_of_file.start, part.to_vec()),
+        blocks: [0, 32, 100, 3_000].iter().map(|&room| block(file, room)).collect(),
+        list: listed(file),
+    }
+}
+
+/// The file with every byte off its reading list drawn anew.
+fn repainted(file: &[u8], random: &mut Random) -> Vec<u8> {
+    let list = listed(file);
+    let fresh = random.bytes(file.len());
+    let byte = |at: usize| if list[at] { file[at] } else { fresh[at] };
+    (0..file.len()).map(byte).collect()
+}
+
+/// A few files of each targeted clause, and files of the random mix.
+fn files() -> Vec<Vec<u8>> {
+    let mut of_clause: BTreeMap<(&str, bool), usize> = BTreeMap::new();
+    let mut files: Vec<Vec<u8>> = Vec::new();
+    for case in targeted(21) {
+        let seen = of_clause.entry((case.clause, case.broken)).or_insert(0);
+        *seen += 1;
+        if *seen <= 3 && !matches!(case.call, Call::ReadBlock(_)) {
+            files.push(case.file);
+        }
+    }
+    files.extend(random(21, 3_000).into_iter().map(|sample| sample.file));
+    files
+}
+
+#[test]
+fn repainting_changes_no_answer() {
+    let mut random = Random::new(22);
+    let mut numbers = BTreeSet::new();
+    let mut painted = 0;
+    for file in files() {
+        let before = answers(&file);
+        numbers.insert(before.verdict.number);
+        for _ in 0..2 {
+            let other = repainted(&file, &mut random);
+            painted += usize::from(other != file);
+            assert_eq!(answers(&other), before);
+        }
+    }
+    assert_eq!(numbers, (0..=22).collect::<BTreeSet<u32>>());
+    assert!(painted > 3_000, "{painted}");
+}
+
+#[test]
+fn in_an_accepted_file_no_strip_byte_is_listed() {
+    for sample in random(23, 2_000).into_iter().filter(|sample| !sample.damaged) {
+        let list = listed(&sample.file);
+        for strip in strips(&sample.file) {
+            assert!(list[strip].iter().all(|listed| !listed));
+        }
+    }
+}
+
+/// The strips of an accepted file, read apart from the reader.
+fn strips(file: &[u8]) -> Vec<std::ops::Range<usize>> {
+    let number = |at: usize, width: usize| {
+        let bytes = &file[at..at + width];
+        let fold = |total: usize, byte: &u8| total << 8 | usize::from(*byte);
+        match file[0] {
+            b'I' => bytes.iter().rev().fold(0, fold),
+            _ => bytes.iter().fold(0, fold),
+        }
+    };
+    let directory = number(4, 4);
+    let numbers = |tag: usize| -> Vec<usize> {
+        let entries = (0..number(directory, 2)).map(|at| directory + 2 + 12 * at);
+        let entry = entries.into_iter().find(|&at| number(at, 2) == tag).expect("a needed tag");
+        let (width, count) = (if number(entry + 2, 2) == 3 { 2 } else { 4 }, number(entry + 4, 4));
+        let start = if width * count > 4 { number(entry + 8, 4) } else { entry + 8 };
+        (0..count).map(|at| number(start + width * at, width)).collect()
+    };
+    let (offsets, counts) = (numbers(273), numbers(279));
+    offsets.iter().zip(&counts).map(|(&offset, &count)| offset..offset + count).collect()
+}
