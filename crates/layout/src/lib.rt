@@ -10,8 +10,9 @@ ghost use Rattle.paper.specs.declared.Outcome.the-variants.{Kept as kept};
 ghost use Rattle.paper.specs.Layout.{odd, isBig, dirLen, rule1, rule2, sizeOf, entryOf, entries, badValue};
 ghost use Rattle.paper.specs.Judge.{dirRules};
 ghost use Rattle.layout.specs.Opening.{headedOf, countedOf, openedOf};
-ghost use Rattle.layout.specs.Finding.{told, indexOf, places, foundOf};
-ghost use Rattle.layout.specs.Columns.{tags};
+ghost use Rattle.layout.specs.Finding.{told, indexOf, foundOf};
+ghost use Rattle.layout.specs.Columns.{tags, typsOf, countsOf, startsOf, lensOf};
+ghost use mathlib.Core.List.{[]};
 use paper::Entry;
 use paper::Verdict;
 
@@ -26,13 +27,6 @@ pub enum Headed {
 pub enum Opened {
     Refused(u32, u32),
     Laid(bool, usize, usize),
-}
-
-// What one pass over the directory answers: the verdict of rules 6 to 8, and for each tag of the table one more than the index of
-// its first entry, 0 where there is none.
-pub struct Scanned {
-    pub verdict: Verdict,
-    pub at: [usize; 17],
 }
 
 // The size of an element of a type; 0 for a type other than 1 to 12.
@@ -260,13 +254,26 @@ fn directory_verdict(six: usize, seven: usize, next: usize) -> Verdict
     }
 }
 
-// Rules 6 to 8 and the places of the table's tags, in one pass from the last entry to the first: at each turn all is known of the
-// entries from i on.
-pub fn scan(dir: &[u8], big: bool, at: usize, c: usize, n: usize) -> Scanned
-    requires { ⌜ (dirLen c ≤ length (now dir)) × (0 < c) × (c ≤ 1024) × (at + dirLen c ≤ n) × (n ≤ 4294967295) ⌝ }
-    ensures { λ r. ⌜ (r .verdict ≡ first (dirRules (record { size = n; big = big; at = at }) c (now (dir .entry)) (entries big at c (now (dir .entry))))) × (r .at ≡ places (entries big at c (now (dir .entry)))) ⌝ }
+// Rules 6 to 8, and a column of each field of the table's tags, in one pass from the last entry to the first: at each turn all is known of the
+// entries from i on. The columns are lent as those of no entry; the starts and lengths end with those of the head and of the directory.
+pub fn scan(
+    dir: &[u8],
+    big: bool,
+    at: usize,
+    c: usize,
+    n: usize,
+    typs: &mut [usize; 17],
+    counts: &mut [usize; 17],
+    starts: &mut [usize; 19],
+    lens: &mut [usize; 19],
+) -> Verdict
+    requires { ⌜ (dirLen c ≤ length (now dir)) × (0 < c) × (c ≤ 1024) × (at + dirLen c ≤ n) × (n ≤ 4294967295) × (now typs ≡ typsOf []) × (now counts ≡ countsOf []) × (now starts ≡ startsOf at []) × (now lens ≡ lensOf c []) ⌝ }
+    ensures verdict { λ r. ⌜ r ≡ first (dirRules (record { size = n; big = big; at = at }) c (now (dir .entry)) (entries big at c (now (dir .entry)))) ⌝ }
+    ensures typs { λ _. ⌜ now (typs .exit) ≡ typsOf (entries big at c (now (dir .entry))) ⌝ }
+    ensures counts { λ _. ⌜ now (counts .exit) ≡ countsOf (entries big at c (now (dir .entry))) ⌝ }
+    ensures starts { λ _. ⌜ now (starts .exit) ≡ startsOf at (entries big at c (now (dir .entry))) ⌝ }
+    ensures lens { λ _. ⌜ now (lens .exit) ≡ lensOf c (entries big at c (now (dir .entry))) ⌝ }
 {
-    let mut found = [0usize; 17];
     let mut six = 65536;
     let mut seven = 65536;
     let mut next = 65536;
@@ -279,11 +286,13 @@ pub fn scan(dir: &[u8], big: bool, at: usize, c: usize, n: usize) -> Scanned
         next = e.tag;
         let k = slot_of(e.tag);
         if k < 17 {
-            found[k] = i + 1;
+            typs[k] = e.typ;
+            counts[k] = e.count;
+            starts[k] = e.start;
+            lens[k] = e.len;
         }
     }
-    let verdict = directory_verdict(six, seven, order::long(dir, big, 2 + 12 * c));
-    Scanned { verdict, at: found }
+    directory_verdict(six, seven, order::long(dir, big, 2 + 12 * c))
 }
 
 // The entry of a place that `scan` gave; all 0 at place 0.

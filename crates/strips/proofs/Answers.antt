@@ -42,27 +42,27 @@ module _ (g : Gap) (s e from len : ℕ) where
 
 -- ---- gap_of: the gap among the ranges from j on
 
-abbrev pub gapFrom : List ℕ → ℕ → ℕ → ℕ → ℕ → Gap
-gapFrom ranges m s e j = gapOf s e (build (rangeAt ranges) j (m - j))
+abbrev pub gapFrom : List ℕ → List ℕ → ℕ → ℕ → ℕ → ℕ → Gap
+gapFrom starts lens m s e j = gapOf s e (build (rangeAt starts lens) j (m - j))
 
-pub gap-start : (ranges : List ℕ) (m s e : ℕ) → whole ≡ gapFrom ranges m s e m
+pub gap-start : (starts lens : List ℕ) (m s e : ℕ) → whole ≡ gapFrom starts lens m s e m
 unfolding gapOf
-gap-start ranges m s e = sym (ap (gapOf s e) (build-end (rangeAt ranges) m))
+gap-start starts lens m s e = sym (ap (gapOf s e) (build-end (rangeAt starts lens) m))
 
-pub gap-turn : (ranges : List ℕ) (m s e j : ℕ) (g : Gap) → 0 < j → j ≤ m → g ≡ gapFrom ranges m s e j
-    → narrowed g s e (getD ranges (2 * (j - 1)) 0) (getD ranges (2 * (j - 1) + 1) 0) ≡ gapFrom ranges m s e (j - 1)
+pub gap-turn : (starts lens : List ℕ) (m s e j : ℕ) (g : Gap) → 0 < j → j ≤ m → g ≡ gapFrom starts lens m s e j
+    → narrowed g s e (getD starts (j - 1) 0) (getD lens (j - 1) 0) ≡ gapFrom starts lens m s e (j - 1)
 unfolding gapOf rangeAt
-gap-turn ranges m s e j g p q h =
+gap-turn starts lens m s e j g p q h =
     let k : j - 1 + 1 ≡ j = omega arith in
-    let b : build (rangeAt ranges) (j - 1) (m - (j - 1)) ≡ rangeAt ranges (j - 1) ∷ build (rangeAt ranges) j (m - j) =
-    build-step (rangeAt ranges) (j - 1) m (omega arith) ∙ ap (λ (i : ℕ). rangeAt ranges (j - 1) ∷ build (rangeAt ranges) i (m - i)) k in
-    sym (ap (gapOf s e) b ∙ ap (λ (x : Gap). narrowed x s e (getD ranges (2 * (j - 1)) 0) (getD ranges (2 * (j - 1) + 1) 0)) (sym h))
+    let b : build (rangeAt starts lens) (j - 1) (m - (j - 1)) ≡ rangeAt starts lens (j - 1) ∷ build (rangeAt starts lens) j (m - j) =
+    build-step (rangeAt starts lens) (j - 1) m (omega arith) ∙ ap (λ (i : ℕ). rangeAt starts lens (j - 1) ∷ build (rangeAt starts lens) i (m - i)) k in
+    sym (ap (gapOf s e) b ∙ ap (λ (x : Gap). narrowed x s e (getD starts (j - 1) 0) (getD lens (j - 1) 0)) (sym h))
 
-pub gap-end : (ranges : List ℕ) (m s e j : ℕ) (g : Gap) → j ≤ 0 → g ≡ gapFrom ranges m s e j → g ≡ gapOf s e (rangesOf ranges m)
+pub gap-end : (starts lens : List ℕ) (m s e j : ℕ) (g : Gap) → j ≤ 0 → g ≡ gapFrom starts lens m s e j → g ≡ gapOf s e (rangesOf starts lens m)
 unfolding rangesOf
-gap-end ranges m s e j g z h =
+gap-end starts lens m s e j g z h =
     let a : j ≡ 0 = omega arith in
-    h ∙ ap (λ (i : ℕ). gapOf s e (build (rangeAt ranges) i (m - i))) a ∙ ap (λ (i : ℕ). gapOf s e (build (rangeAt ranges) 0 i)) (sub-zero m)
+    h ∙ ap (λ (i : ℕ). gapOf s e (build (rangeAt starts lens) i (m - i))) a ∙ ap (λ (i : ℕ). gapOf s e (build (rangeAt starts lens) 0 i)) (sub-zero m)
 
 -- ---- gap_at
 

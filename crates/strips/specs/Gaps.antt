@@ -1,4 +1,4 @@
--- The gaps of a reading list that is lent as a run of numbers, a start and a length for each range. Assumes nothing.
+-- The gaps of a reading list that is lent as two columns, the starts of its ranges and their lengths. Assumes nothing.
 use Prim.Native.Nat.{ℕ, zero, suc, _+_, _-_, _*_, _<_, min, max}
 use mathlib.Core.Bool.{Bool, true, false, cond, _&&_, _||_}
 use mathlib.Core.List.{List, [], _∷_}
@@ -10,17 +10,17 @@ use Rattle.paper.specs.Strips.{Part, part, Strip, placeAt, rule13, rule14}
 use Rattle.paper.specs.declared.Verdict.{Verdict}
 use Rattle.strips.specs.declared.Gap.{Gap}
 
--- every number of the run is that of a file's part
+-- every number of a column is that of a file's part
 abbrev pub Low : List ℕ → Type 0
-Low ranges = (i : ℕ) → getD ranges i 0 < 68719476736
+Low column = (i : ℕ) → getD column i 0 < 68719476736
 
 -- range j of the list
-unfoldable pub rangeAt : List ℕ → ℕ → Part
-rangeAt ranges j = part (getD ranges (2 * j) 0) (getD ranges (2 * j + 1) 0)
+unfoldable pub rangeAt : List ℕ → List ℕ → ℕ → Part
+rangeAt starts lens j = part (getD starts j 0) (getD lens j 0)
 
 -- m ranges
-unfoldable pub rangesOf : List ℕ → ℕ → List Part
-rangesOf ranges m = build (rangeAt ranges) 0 m
+unfoldable pub rangesOf : List ℕ → List ℕ → ℕ → List Part
+rangesOf starts lens m = build (rangeAt starts lens) 0 m
 
 -- the places from i on, of k
 unfoldable pub fromPlace : Bool → ℕ → List ℕ → ℕ → List ℕ → ℕ → ℕ → List Strip

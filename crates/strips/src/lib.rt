@@ -1,5 +1,5 @@
 // Where the places of a picture may lie: rules 13 and 14 in one pass, each offset and byte count fetched once. The places are any two runs of
-// numbers, the reading list is any run of ranges, so that every kind of picture is judged by this one pass.
+// numbers, the reading list any two columns, so that every kind of picture is judged by this one pass.
 ghost use mathlib.Core.Path.{_≡_};
 ghost use mathlib.Core.Bool.{_||_};
 ghost use Prim.Native.Nat.{_+_, _*_, _≤_, _<_, max, min};
@@ -75,9 +75,9 @@ fn narrow(g: Gap, start: usize, end: usize, from: usize, len: usize) -> Gap
 }
 
 // The gap around a place, among m ranges that each have a start and a length.
-fn gap_of(ranges: &[usize], m: usize, start: usize, end: usize) -> Gap
-    requires { ⌜ (2 * m ≤ length (now ranges)) × Low (now ranges) ⌝ }
-    ensures { λ r. ⌜ r ≡ gapOf start end (rangesOf (now (ranges .entry)) m) ⌝ }
+fn gap_of(starts: &[usize], lens: &[usize], m: usize, start: usize, end: usize) -> Gap
+    requires { ⌜ (m ≤ length (now starts)) × (m ≤ length (now lens)) × Low (now starts) × Low (now lens) ⌝ }
+    ensures { λ r. ⌜ r ≡ gapOf start end (rangesOf (now (starts .entry)) (now (lens .entry)) m) ⌝ }
 {
     let mut g = Gap {
         lo: 0,
@@ -87,22 +87,20 @@ fn gap_of(ranges: &[usize], m: usize, start: usize, end: usize) -> Gap
     let mut j = m;
     while 0 < j {
         j -= 1;
-        let from = ranges[2 * j];
-        let len = ranges[2 * j + 1];
-        g = narrow(g, start, end, from, len);
+        g = narrow(g, start, end, starts[j], lens[j]);
     }
     g
 }
 
 // The gap in hand where the place lies in it, and else the one around it.
-fn gap_at(g: Gap, ranges: &[usize], m: usize, start: usize, end: usize) -> Gap
-    requires { ⌜ (2 * m ≤ length (now ranges)) × Low (now ranges) ⌝ }
-    ensures { λ r. ⌜ r ≡ gapAt g start end (rangesOf (now (ranges .entry)) m) ⌝ }
+fn gap_at(g: Gap, starts: &[usize], lens: &[usize], m: usize, start: usize, end: usize) -> Gap
+    requires { ⌜ (m ≤ length (now starts)) × (m ≤ length (now lens)) × Low (now starts) × Low (now lens) ⌝ }
+    ensures { λ r. ⌜ r ≡ gapAt g start end (rangesOf (now (starts .entry)) (now (lens .entry)) m) ⌝ }
 {
     if (g.lo <= start) & (end <= g.hi) {
         return g;
     }
-    gap_of(ranges, m, start, end)
+    gap_of(starts, lens, m, start, end)
 }
 
 // Rule 13 from a place on, where an earlier place breaks rule 14 at `clash`.
@@ -147,11 +145,12 @@ pub fn judge_places(
     big: bool,
     k: usize,
     n: usize,
-    ranges: &[usize],
+    starts: &[usize],
+    lens: &[usize],
     m: usize,
 ) -> Verdict
-    requires { ⌜ (k < 4294967296) × (width wideoffsets * k ≤ length (now offsets)) × (width widecounts * k ≤ length (now counts)) × (2 * m ≤ length (now ranges)) × Low (now ranges) ⌝ }
-    ensures { λ r. ⌜ r ≡ placesJudged n (rangesOf (now (ranges .entry)) m) (placesOf big (width wideoffsets) (now (offsets .entry)) (width widecounts) (now (counts .entry)) k) ⌝ }
+    requires { ⌜ (k < 4294967296) × (width wideoffsets * k ≤ length (now offsets)) × (width widecounts * k ≤ length (now counts)) × (m ≤ length (now starts)) × (m ≤ length (now lens)) × Low (now starts) × Low (now lens) ⌝ }
+    ensures { λ r. ⌜ r ≡ placesJudged n (rangesOf (now (starts .entry)) (now (lens .entry)) m) (placesOf big (width wideoffsets) (now (offsets .entry)) (width widecounts) (now (counts .entry)) k) ⌝ }
 {
     let mut g = Gap {
         lo: 0,
@@ -168,7 +167,7 @@ pub fn judge_places(
                 place: i as u32,
             };
         }
-        let next = gap_at(g, ranges, m, start, start + len);
+        let next = gap_at(g, starts, lens, m, start, start + len);
         if next.touch {
             return after_clash(
                 offsets,

@@ -1,13 +1,14 @@
--- `scan` meets its contract: at each turn the three answers are those for the entries from i on. Assumes nothing.
-use Prim.Native.Nat.{_+_, _-_, _*_, _≤_, _<_}
-use borrow.Author.Needs.{needs}
-use Rattle.layout.specs.Finding.{told, places}
-use Rattle.paper.specs.Outcome.{first}
-use Rattle.paper.specs.Judge.{dirRules}
-use Rattle.paper.specs.Layout.{rule6, rule7, rule8}
-use Rattle.layout.proofs.Turns.{rest, placesFrom, firstTag, rest-whole, places-none, six-none, seven-none, next-none, turn-next, turn6, turn7, turn-in, turn-out}
+-- `scan` meets its contract: at each turn the verdicts and the columns are those for the entries from i on. Assumes nothing.
+use Rattle.layout.proofs.Turns.{rest, firstTag, rest-whole, rest-none, six-none, seven-none, next-none, turn-next, turn6, turn7, typs-in, counts-in, starts-in, lens-in, typs-out, counts-out, starts-out, lens-out}
 use Rattle.layout.proofs.Sizes.{len-of}
-use mathlib.Core.Path.{_≡_, _∙_}
+use Rattle.paper.specs.Layout.{rule6, rule7, rule8}
+use Rattle.paper.specs.Judge.{dirRules}
+use Rattle.paper.specs.Outcome.{first}
+use Rattle.layout.specs.Columns.{typsOf, countsOf, startsOf, lensOf}
+use Rattle.layout.specs.Finding.{told}
+use borrow.Author.Needs.{needs}
+use mathlib.Core.Path.{_≡_, ap, sym, _∙_}
+use Prim.Native.Nat.{ℕ, _+_, _-_, _*_, _≤_, _<_}
 use native.Mathlib.Omega.{arith}
 use Rattle.layout.proofs.scan.Statement.{statement}
 use Rattle.layout.proofs.scan.Tie as tie
@@ -22,115 +23,153 @@ use Rattle.layout.proofs.step7.Reads as step7-reads
 use Rattle.order.proofs.long.Reads as long-reads
 
 abbrev Inv-loop : tie.InvT-loop
-Inv-loop dir big at c n found₀ six₀ seven₀ next₀ i₀ found six seven next i =
-    (i ≤ c) × (found ≡ placesFrom big at c dir i) × (told six ≡ rule6 (rest big at c dir i)) × (told seven ≡ rule7 n (rest big at c dir i))
-    × (next ≡ firstTag (rest big at c dir i)) × ((six ≤ 65536) × (seven ≤ 65536) × (next ≤ 65536))
+Inv-loop dir big at c n typs₀ counts₀ starts₀ lens₀ six₀ seven₀ next₀ i₀ typs counts starts lens six seven next i =
+    (i ≤ c) × (typs ≡ typsOf (rest big at c dir i)) × (counts ≡ countsOf (rest big at c dir i)) × (starts ≡ startsOf at (rest big at c dir i)) × (lens ≡ lensOf c (rest big at c dir i))
+    × (told six ≡ rule6 (rest big at c dir i)) × (told seven ≡ rule7 n (rest big at c dir i)) × (next ≡ firstTag (rest big at c dir i)) × ((six ≤ 65536) × (seven ≤ 65536) × (next ≤ 65536))
 
 abbrev μ-loop : tie.MeasureT-loop
-μ-loop dir big at c n found₀ six₀ seven₀ next₀ i₀ found six seven next i = i
+μ-loop dir big at c n typs₀ counts₀ starts₀ lens₀ six₀ seven₀ next₀ i₀ typs counts starts lens six seven next i = i
 
+-- src/lib.rt:281:5
 loop-holds : tie.Need-loop-holds Inv-loop μ-loop
 loop-holds c =
-    let a = c .before .args in
-    (omega arith, places-none (a .big) (a .at) (a .c) (a .dir .now), six-none (a .big) (a .at) (a .c) (a .dir .now), seven-none (a .big) (a .at) (a .c) (a .dir .now) (a .n), next-none (a .big) (a .at) (a .c) (a .dir .now), (omega arith, omega arith, omega arith))
+    let none = rest-none (c .before .args .big) (c .before .args .at) (c .before .args .c) (c .before .args .dir .now) in
+    (omega arith, c .before .pre .5 ∙ ap typsOf (sym none), c .before .pre .6 ∙ ap countsOf (sym none), c .before .pre .7 ∙ ap (startsOf (c .before .args .at)) (sym none), c .before .pre .8 ∙ ap (lensOf (c .before .args .c)) (sym none), six-none (c .before .args .big) (c .before .args .at) (c .before .args .c) (c .before .args .dir .now), seven-none (c .before .args .big) (c .before .args .at) (c .before .args .c) (c .before .args .dir .now) (c .before .args .n), next-none (c .before .args .big) (c .before .args .at) (c .before .args .c) (c .before .args .dir .now), (omega arith, omega arith, omega arith))
 
+-- src/lib.rt:282:9
 sub-i : tie.Need-sub-i Inv-loop μ-loop
 sub-i c = omega arith
 
+-- src/lib.rt:283:44
 mul-entry-at : tie.Need-mul-entry-at Inv-loop μ-loop
 mul-entry-at c = omega arith
 
+-- src/lib.rt:283:40
 add-entry-at : tie.Need-add-entry-at Inv-loop μ-loop
 add-entry-at c = omega arith
 
+-- src/lib.rt:283:13
 entry-at-requires : tie.Need-entry-at-requires Inv-loop μ-loop
 entry-at-requires c κs = omega arith
 
+-- src/lib.rt:284:9
 step6-requires : tie.Need-step6-requires Inv-loop μ-loop
 step6-requires c κs = omega arith
 
+-- src/lib.rt:285:30
 bad-value-requires : tie.Need-bad-value-requires Inv-loop μ-loop
-bad-value-requires c κs =
-    let a = c .before .before .before .before .before .args in
-    let e = c .before .entry-at .ensures in
-    (len-of (a .big) (a .at) (a .dir .now) (2 + 12 * (c .before .before .before .loop .i - 1)) _ (e .0), e .4, e .5)
+bad-value-requires c κs = (len-of (c .before .before .before .before .before .args .big) (c .before .before .before .before .before .args .at) (c .before .before .before .before .before .args .dir .now) (2 + 12 * (c .before .before .before .loop .i - 1)) _ (c .before .entry-at .ensures .0), c .before .entry-at .ensures .4, c .before .entry-at .ensures .5)
 
+-- src/lib.rt:285:9
 step7-requires : tie.Need-step7-requires Inv-loop μ-loop
 step7-requires c κs = omega arith
 
+-- src/lib.rt:287:13
 slot-of-requires : tie.Need-slot-of-requires Inv-loop μ-loop
 slot-of-requires c κs = search needs
 
-add-found : tie.Need-add-found Inv-loop μ-loop
-add-found c = omega arith
+-- src/lib.rt:289:13
+mul-typs : tie.Need-mul-typs Inv-loop μ-loop
+mul-typs c = omega arith
 
-mul-found : tie.Need-mul-found Inv-loop μ-loop
-mul-found c = search needs
+-- src/lib.rt:289:13
+element-write-typs : tie.Need-element-write-typs Inv-loop μ-loop
+element-write-typs c = search needs
 
-array-write-found : tie.Need-array-write-found Inv-loop μ-loop
-array-write-found c = search needs
+-- src/lib.rt:290:13
+mul-counts : tie.Need-mul-counts Inv-loop μ-loop
+mul-counts c = omega arith
 
+-- src/lib.rt:290:13
+element-write-counts : tie.Need-element-write-counts Inv-loop μ-loop
+element-write-counts c = search needs
+
+-- src/lib.rt:291:13
+mul-starts : tie.Need-mul-starts Inv-loop μ-loop
+mul-starts c = omega arith
+
+-- src/lib.rt:291:13
+element-write-starts : tie.Need-element-write-starts Inv-loop μ-loop
+element-write-starts c = search needs
+
+-- src/lib.rt:292:13
+mul-lens : tie.Need-mul-lens Inv-loop μ-loop
+mul-lens c = omega arith
+
+-- src/lib.rt:292:13
+element-write-lens : tie.Need-element-write-lens Inv-loop μ-loop
+element-write-lens c = search needs
+
+-- src/lib.rt:281:5
 loop-less : tie.Need-loop-less Inv-loop μ-loop
 loop-less c = omega arith
 
+-- src/lib.rt:281:5
 loop-again : tie.Need-loop-again Inv-loop μ-loop
 loop-again c =
-    let a = c .before .before .before .before .before .before .before .before .before .args in
-    let l = c .before .before .before .before .before .before .before .loop in
-    let e = c .before .before .before .before .before .entry-at in
-    let p : 0 < l .i = omega arith in
-    let q : l .i ≤ a .c = l .inv .0 in
-    let w : l .i - 1 + 1 ≡ l .i = omega arith in (
+    let p : 0 < c .before .before .before .before .before .before .before .loop .i = omega arith in
+    let q : c .before .before .before .before .before .before .before .loop .i ≤ c .before .before .before .before .before .before .before .before .before .args .c = c .before .before .before .before .before .before .before .loop .inv .0 in (
       omega arith,
-      rw (l .inv .1, c .before .slot-of .ensures, w) (turn-in (a .big) (a .at) (a .c) (a .dir .now) (l .i) p q (e .result) (e .ensures .0)),
-      turn6 (a .big) (a .at) (a .c) (a .dir .now) (l .i) p q (e .result) (e .ensures .0) (l .six) _ (l .next) (l .inv .2) (l .inv .4) (e .ensures .1) (c .before .before .before .before .step6 .ensures .0),
-      turn7 (a .big) (a .at) (a .c) (a .dir .now) (l .i) p q (e .result) (e .ensures .0) (a .n) _ (l .seven) _ (l .inv .3) (c .before .before .before .bad-value .ensures) (e .ensures .1) (c .before .before .step7 .ensures .0),
-      turn-next (a .big) (a .at) (a .c) (a .dir .now) (l .i) p q (e .result) (e .ensures .0),
+      typs-in (c .before .before .before .before .before .before .before .before .before .args .big) (c .before .before .before .before .before .before .before .before .before .args .at) (c .before .before .before .before .before .before .before .before .before .args .c) (c .before .before .before .before .before .before .before .before .before .args .dir .now) (c .before .before .before .before .before .before .before .loop .i) p q (c .before .before .before .before .before .entry-at .result) (c .before .before .before .before .before .entry-at .ensures .0) (c .before .before .before .before .before .before .before .loop .typs) (c .before .slot-of .result) (c .before .slot-of .ensures) (c .before .before .before .before .before .before .before .loop .inv .1),
+      counts-in (c .before .before .before .before .before .before .before .before .before .args .big) (c .before .before .before .before .before .before .before .before .before .args .at) (c .before .before .before .before .before .before .before .before .before .args .c) (c .before .before .before .before .before .before .before .before .before .args .dir .now) (c .before .before .before .before .before .before .before .loop .i) p q (c .before .before .before .before .before .entry-at .result) (c .before .before .before .before .before .entry-at .ensures .0) (c .before .before .before .before .before .before .before .loop .counts) (c .before .slot-of .result) (c .before .slot-of .ensures) (c .before .before .before .before .before .before .before .loop .inv .2),
+      starts-in (c .before .before .before .before .before .before .before .before .before .args .big) (c .before .before .before .before .before .before .before .before .before .args .at) (c .before .before .before .before .before .before .before .before .before .args .c) (c .before .before .before .before .before .before .before .before .before .args .dir .now) (c .before .before .before .before .before .before .before .loop .i) p q (c .before .before .before .before .before .entry-at .result) (c .before .before .before .before .before .entry-at .ensures .0) (c .before .before .before .before .before .before .before .loop .starts) (c .before .slot-of .result) (c .before .slot-of .ensures) (c .before .before .before .before .before .before .before .loop .inv .3) (c .if1 .taken),
+      lens-in (c .before .before .before .before .before .before .before .before .before .args .big) (c .before .before .before .before .before .before .before .before .before .args .at) (c .before .before .before .before .before .before .before .before .before .args .c) (c .before .before .before .before .before .before .before .before .before .args .dir .now) (c .before .before .before .before .before .before .before .loop .i) p q (c .before .before .before .before .before .entry-at .result) (c .before .before .before .before .before .entry-at .ensures .0) (c .before .before .before .before .before .before .before .loop .lens) (c .before .slot-of .result) (c .before .slot-of .ensures) (c .before .before .before .before .before .before .before .loop .inv .4) (c .if1 .taken),
+      turn6 (c .before .before .before .before .before .before .before .before .before .args .big) (c .before .before .before .before .before .before .before .before .before .args .at) (c .before .before .before .before .before .before .before .before .before .args .c) (c .before .before .before .before .before .before .before .before .before .args .dir .now) (c .before .before .before .before .before .before .before .loop .i) p q (c .before .before .before .before .before .entry-at .result) (c .before .before .before .before .before .entry-at .ensures .0) (c .before .before .before .before .before .before .before .loop .six) _ (c .before .before .before .before .before .before .before .loop .next) (c .before .before .before .before .before .before .before .loop .inv .5) (c .before .before .before .before .before .before .before .loop .inv .7) (c .before .before .before .before .before .entry-at .ensures .1) (c .before .before .before .before .step6 .ensures .0),
+      turn7 (c .before .before .before .before .before .before .before .before .before .args .big) (c .before .before .before .before .before .before .before .before .before .args .at) (c .before .before .before .before .before .before .before .before .before .args .c) (c .before .before .before .before .before .before .before .before .before .args .dir .now) (c .before .before .before .before .before .before .before .loop .i) p q (c .before .before .before .before .before .entry-at .result) (c .before .before .before .before .before .entry-at .ensures .0) (c .before .before .before .before .before .before .before .before .before .args .n) _ (c .before .before .before .before .before .before .before .loop .seven) _ (c .before .before .before .before .before .before .before .loop .inv .6) (c .before .before .before .bad-value .ensures) (c .before .before .before .before .before .entry-at .ensures .1) (c .before .before .step7 .ensures .0),
+      turn-next (c .before .before .before .before .before .before .before .before .before .args .big) (c .before .before .before .before .before .before .before .before .before .args .at) (c .before .before .before .before .before .before .before .before .before .args .c) (c .before .before .before .before .before .before .before .before .before .args .dir .now) (c .before .before .before .before .before .before .before .loop .i) p q (c .before .before .before .before .before .entry-at .result) (c .before .before .before .before .before .entry-at .ensures .0),
       (omega arith, omega arith, omega arith),
     )
 
+-- src/lib.rt:281:5
 loop-less-2 : tie.Need-loop-less-2 Inv-loop μ-loop
 loop-less-2 c = omega arith
 
+-- src/lib.rt:281:5
 loop-again-2 : tie.Need-loop-again-2 Inv-loop μ-loop
 loop-again-2 c =
-    let a = c .before .before .before .before .before .before .before .before .before .args in
-    let l = c .before .before .before .before .before .before .before .loop in
-    let e = c .before .before .before .before .before .entry-at in
-    let p : 0 < l .i = omega arith in
-    let q : l .i ≤ a .c = l .inv .0 in
+    let p : 0 < c .before .before .before .before .before .before .before .loop .i = omega arith in
+    let q : c .before .before .before .before .before .before .before .loop .i ≤ c .before .before .before .before .before .before .before .before .before .args .c = c .before .before .before .before .before .before .before .loop .inv .0 in
     let out = rw (c .before .slot-of .ensures) at (c .if1 .left) in (
       omega arith,
-      l .inv .1 ∙ turn-out (a .big) (a .at) (a .c) (a .dir .now) (l .i) p q (e .result) (e .ensures .0) out,
-      turn6 (a .big) (a .at) (a .c) (a .dir .now) (l .i) p q (e .result) (e .ensures .0) (l .six) _ (l .next) (l .inv .2) (l .inv .4) (e .ensures .1) (c .before .before .before .before .step6 .ensures .0),
-      turn7 (a .big) (a .at) (a .c) (a .dir .now) (l .i) p q (e .result) (e .ensures .0) (a .n) _ (l .seven) _ (l .inv .3) (c .before .before .before .bad-value .ensures) (e .ensures .1) (c .before .before .step7 .ensures .0),
-      turn-next (a .big) (a .at) (a .c) (a .dir .now) (l .i) p q (e .result) (e .ensures .0),
+      c .before .before .before .before .before .before .before .loop .inv .1 ∙ typs-out (c .before .before .before .before .before .before .before .before .before .args .big) (c .before .before .before .before .before .before .before .before .before .args .at) (c .before .before .before .before .before .before .before .before .before .args .c) (c .before .before .before .before .before .before .before .before .before .args .dir .now) (c .before .before .before .before .before .before .before .loop .i) p q (c .before .before .before .before .before .entry-at .result) (c .before .before .before .before .before .entry-at .ensures .0) out,
+      c .before .before .before .before .before .before .before .loop .inv .2 ∙ counts-out (c .before .before .before .before .before .before .before .before .before .args .big) (c .before .before .before .before .before .before .before .before .before .args .at) (c .before .before .before .before .before .before .before .before .before .args .c) (c .before .before .before .before .before .before .before .before .before .args .dir .now) (c .before .before .before .before .before .before .before .loop .i) p q (c .before .before .before .before .before .entry-at .result) (c .before .before .before .before .before .entry-at .ensures .0) out,
+      c .before .before .before .before .before .before .before .loop .inv .3 ∙ starts-out (c .before .before .before .before .before .before .before .before .before .args .big) (c .before .before .before .before .before .before .before .before .before .args .at) (c .before .before .before .before .before .before .before .before .before .args .c) (c .before .before .before .before .before .before .before .before .before .args .dir .now) (c .before .before .before .before .before .before .before .loop .i) p q (c .before .before .before .before .before .entry-at .result) (c .before .before .before .before .before .entry-at .ensures .0) out,
+      c .before .before .before .before .before .before .before .loop .inv .4 ∙ lens-out (c .before .before .before .before .before .before .before .before .before .args .big) (c .before .before .before .before .before .before .before .before .before .args .at) (c .before .before .before .before .before .before .before .before .before .args .c) (c .before .before .before .before .before .before .before .before .before .args .dir .now) (c .before .before .before .before .before .before .before .loop .i) p q (c .before .before .before .before .before .entry-at .result) (c .before .before .before .before .before .entry-at .ensures .0) out,
+      turn6 (c .before .before .before .before .before .before .before .before .before .args .big) (c .before .before .before .before .before .before .before .before .before .args .at) (c .before .before .before .before .before .before .before .before .before .args .c) (c .before .before .before .before .before .before .before .before .before .args .dir .now) (c .before .before .before .before .before .before .before .loop .i) p q (c .before .before .before .before .before .entry-at .result) (c .before .before .before .before .before .entry-at .ensures .0) (c .before .before .before .before .before .before .before .loop .six) _ (c .before .before .before .before .before .before .before .loop .next) (c .before .before .before .before .before .before .before .loop .inv .5) (c .before .before .before .before .before .before .before .loop .inv .7) (c .before .before .before .before .before .entry-at .ensures .1) (c .before .before .before .before .step6 .ensures .0),
+      turn7 (c .before .before .before .before .before .before .before .before .before .args .big) (c .before .before .before .before .before .before .before .before .before .args .at) (c .before .before .before .before .before .before .before .before .before .args .c) (c .before .before .before .before .before .before .before .before .before .args .dir .now) (c .before .before .before .before .before .before .before .loop .i) p q (c .before .before .before .before .before .entry-at .result) (c .before .before .before .before .before .entry-at .ensures .0) (c .before .before .before .before .before .before .before .before .before .args .n) _ (c .before .before .before .before .before .before .before .loop .seven) _ (c .before .before .before .before .before .before .before .loop .inv .6) (c .before .before .before .bad-value .ensures) (c .before .before .before .before .before .entry-at .ensures .1) (c .before .before .step7 .ensures .0),
+      turn-next (c .before .before .before .before .before .before .before .before .before .args .big) (c .before .before .before .before .before .before .before .before .before .args .at) (c .before .before .before .before .before .before .before .before .before .args .c) (c .before .before .before .before .before .before .before .before .before .args .dir .now) (c .before .before .before .before .before .before .before .loop .i) p q (c .before .before .before .before .before .entry-at .result) (c .before .before .before .before .before .entry-at .ensures .0),
       (omega arith, omega arith, omega arith),
     )
 
+-- src/lib.rt:295:61
 mul-long : tie.Need-mul-long Inv-loop μ-loop
 mul-long c = omega arith
 
+-- src/lib.rt:295:57
 add-long : tie.Need-add-long Inv-loop μ-loop
 add-long c = omega arith
 
+-- src/lib.rt:295:35
 long-requires : tie.Need-long-requires Inv-loop μ-loop
 long-requires c κs = omega arith
 
+-- src/lib.rt:295:5
 directory-verdict-requires : tie.Need-directory-verdict-requires Inv-loop μ-loop
 directory-verdict-requires c κs = omega arith
 
+-- src/lib.rt:259:1
 returns : tie.Need-returns Inv-loop μ-loop
-unfolding dirRules first rule8 places
+unfolding dirRules first rule8
 returns c =
-    let a = c .before .before .before .before .before .args in
-    let l = c .before .before .before .loop in
-    let z : l .i ≡ 0 = omega arith in
-    let w = rest-whole (a .big) (a .at) (a .c) (a .dir .now) in
-    let six = rw (z, w) at (l .inv .2) in
-    let seven = rw (z, w) at (l .inv .3) in
-    let found = rw (z, w) at (l .inv .1) in
-    (rw (← six, ← seven, ← c .before .long .ensures .0) (c .directory-verdict .ensures), found)
+    let z : c .before .before .before .loop .i ≡ 0 = omega arith in
+    let w = rest-whole (c .before .before .before .before .before .args .big) (c .before .before .before .before .before .args .at) (c .before .before .before .before .before .args .c) (c .before .before .before .before .before .args .dir .now) in
+    let six = rw (z, w) at (c .before .before .before .loop .inv .5) in
+    let seven = rw (z, w) at (c .before .before .before .loop .inv .6) in
+    let typs = rw (z, w) at (c .before .before .before .loop .inv .1) in
+    let counts = rw (z, w) at (c .before .before .before .loop .inv .2) in
+    let starts = rw (z, w) at (c .before .before .before .loop .inv .3) in
+    let lens = rw (z, w) at (c .before .before .before .loop .inv .4) in
+    (rw (← six, ← seven, ← c .before .long .ensures .0) (c .directory-verdict .ensures), (typs, (counts, (starts, lens))))
 
 pub scan-spec : {M : Type 1} → statement M
 scan-spec =
@@ -147,9 +186,14 @@ scan-spec =
     bad-value-requires
     step7-requires
     slot-of-requires
-    add-found
-    mul-found
-    array-write-found
+    mul-typs
+    element-write-typs
+    mul-counts
+    element-write-counts
+    mul-starts
+    element-write-starts
+    mul-lens
+    element-write-lens
     loop-less
     loop-again
     loop-less-2
