@@ -39,7 +39,7 @@ unfolding dirRules all
 seven-kept h c dir es is z = kept-first (dirRules h c dir es) refl (zero-of is z) 1
 
 -- an entry of another type than 1 to 12 has no value bytes
-untyped-len : (big : Bool) (at : ℕ) (dir : List ℕ) (p : ℕ) → typed (entryOf big at dir p) ≡ false → entryOf big at dir p .len ≡ 0
+pub untyped-len : (big : Bool) (at : ℕ) (dir : List ℕ) (p : ℕ) → typed (entryOf big at dir p) ≡ false → entryOf big at dir p .len ≡ 0
 unfolding entryOf
 untyped-len big at dir p h =
     let z : sizeOf (num big 2 dir (p + 2)) ≡ 0 = omega (arith, ltb-false 0 (sizeOf (num big 2 dir (p + 2))) h) in

@@ -10,7 +10,7 @@ ghost use Rattle.paper.specs.declared.Outcome.the-variants.{Kept as kept};
 ghost use Rattle.paper.specs.Layout.{odd, isBig, dirLen, rule1, rule2, sizeOf, entryOf, entries, badValue};
 ghost use Rattle.paper.specs.Judge.{dirRules};
 ghost use Rattle.layout.specs.Opening.{headedOf, countedOf, openedOf};
-ghost use Rattle.layout.specs.Finding.{told, indexOf, foundOf};
+ghost use Rattle.layout.specs.Finding.{told, indexOf};
 ghost use Rattle.layout.specs.Columns.{tags, typsOf, countsOf, startsOf, lensOf};
 ghost use mathlib.Core.List.{[]};
 use paper::Entry;
@@ -295,29 +295,11 @@ pub fn scan(
     directory_verdict(six, seven, order::long(dir, big, 2 + 12 * c))
 }
 
-// The entry of a place that `scan` gave; all 0 at place 0.
-pub fn found(dir: &[u8], big: bool, at: usize, p: usize) -> Entry
-    requires { ⌜ (2 + 12 * p ≤ length (now dir)) × (at < 4294967296) × (p ≤ 1024) ⌝ }
-    ensures { λ r. ⌜ (r ≡ foundOf big at (now (dir .entry)) p) × (r .tag < 65536) × (r .typ < 65536) × (r .count < 4294967296) × (r .start < 4294979604) × (r .len ≤ 34359738360) ⌝ }
+// The bytes of a value, a part of the file.
+pub fn value<'a>(file: &'a [u8], start: usize, len: usize) -> &'a [u8]
+    requires { ⌜ start + len ≤ length (now file) ⌝ }
+    ensures { λ r. ⌜ now r ≡ run (now (file .entry)) start len ⌝ }
 {
-    if p == 0 {
-        return Entry {
-            tag: 0,
-            typ: 0,
-            count: 0,
-            start: 0,
-            len: 0,
-        };
-    }
-    entry_at(dir, big, at, 2 + 12 * (p - 1))
-}
-
-// The bytes of an entry's value, a part of the file.
-pub fn value<'a>(file: &'a [u8], e: Entry) -> &'a [u8]
-    requires { ⌜ e .start + e .len ≤ length (now file) ⌝ }
-    ensures { λ r. ⌜ now r ≡ run (now (file .entry)) (e .start) (e .len) ⌝ }
-{
-    let start = e.start;
-    let end = start + e.len;
+    let end = start + len;
     &file[start..end]
 }

@@ -2,6 +2,7 @@
 pub mod Demands
 -- what it rests on
 pub mod First
+pub mod Called
 pub mod Unseen
 pub mod Citation
 pub mod Metadata

@@ -1,0 +1,4 @@
+pub mod Listed
+pub mod Chained
+pub mod Shown
+pub mod Laid

@@ -1,0 +1,37 @@
+-- What is known of a file after each stage of its judgement. Assumes nothing.
+use Prim.Native.Nat.{ℕ}
+use mathlib.Core.Path.{_≡_}
+use mathlib.Core.Bool.{Bool}
+use mathlib.Core.List.{List, [], _∷_}
+use Rattle.paper.specs.Outcome.{first, _▸_}
+use Rattle.paper.specs.Layout.{rule6}
+use Rattle.paper.specs.Tag
+use Rattle.paper.specs.Tags.{valueOf}
+use Rattle.paper.specs.Strips.{rule13, rule14}
+use Rattle.paper.specs.Judge.{View, stripsOf, fullOf, tagRules}
+use Rattle.paper.specs.declared.Outcome.the-variants.{Kept as kept}
+use Rattle.paper.specs.declared.Verdict.{Verdict}
+use Rattle.tags.specs.Tagging.{entriesAt, heldAt, viewOf, taggedOf, Ready}
+
+-- rules 1 to 8 are kept, and the columns are those of the directory
+pub record Passed (f : List ℕ) (big : Bool) (at c : ℕ) (typs counts starts lens : List ℕ) : Type 0 where
+  pub ready : Ready f big at c typs counts starts lens
+  pub six : rule6 (entriesAt f big at c) ≡ kept
+
+-- rules 9 to 12 too
+pub record Fits (f : List ℕ) (big : Bool) (at c : ℕ) (typs counts starts lens : List ℕ) : Type 0 where
+  pub passed : Passed f big at c typs counts starts lens
+  pub twelve : taggedOf (viewOf f big at c) .verdict .number ≡ 0
+
+-- rules 13 and 14
+unfoldable pub stripsJudged : View → Verdict
+stripsJudged v = first (13 ▸ rule13 (v .head .size) (stripsOf v) ∷ 14 ▸ rule14 (fullOf v) (stripsOf v) ∷ [])
+
+-- rules 9 to 14, with the picture's width and length
+pub record Placed (f : List ℕ) (big : Bool) (at c : ℕ) (starts lens : List ℕ) (width length : ℕ) : Type 0 where
+  pub typs : List ℕ
+  pub counts : List ℕ
+  pub fits : Fits f big at c typs counts starts lens
+  pub fourteen : stripsJudged (viewOf f big at c) .number ≡ 0
+  pub wide : width ≡ valueOf big Tag.width (heldAt f big at c)
+  pub long : length ≡ valueOf big Tag.length (heldAt f big at c)

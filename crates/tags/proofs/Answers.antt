@@ -1,0 +1,275 @@
+-- The values as they stand in the file are those of the paper, where rules 9 and 10 are kept; and one law for each answer of rules 9 to 12.
+-- Assumes nothing.
+use Prim.Native.Nat.{ℕ, _+_, _-_, _*_, _≤_, _<_}
+use mathlib.Core.Path.{_≡_, refl, sym, ap, ap₂, _∙_, subst}
+use mathlib.Core.Bool.{Bool, true, false, cond, not, _&&_, _||_, or-false}
+use mathlib.Core.List.{List, [], _∷_}
+use native.Mathlib.Nat.{mul-one, add-sub-cancel-left}
+use native.Mathlib.Omega.{arith}
+use lib.Dec.{eqb, leb, lit<}
+use lib.ListN.{length, getD}
+use borrow.Author.Tests.{leb-true, not-false, eqb-true}
+use Rattle.paper.specs.Bytes.{run}
+use Rattle.paper.specs.Outcome.{breaks, firstOf, first, verdict}
+use Rattle.paper.specs.declared.Outcome.{Outcome}
+use Rattle.paper.specs.declared.Outcome.the-variants.{Kept as kept, Broken as broken}
+use Rattle.paper.specs.Tests.{some, between, just, allows}
+use Rattle.paper.specs.Layout.{sizeOf}
+use Rattle.paper.specs.Tags.{more, table, Held, has, valueOf, valuesOf, stripCount, rule9, rule10, rule11, rule12}
+use Rattle.paper.proofs.Laws.{and-eq, or-same, kept-cond, run-length-in}
+use Rattle.tags.specs.declared.Numbers.{Numbers}
+use Rattle.tags.specs.declared.Bits.{Bits}
+use Rattle.tags.specs.declared.Tagged.{Tagged}
+use Rattle.tags.specs.Slots.{lineAt, tagAt, nineOf, tenFrom}
+use Rattle.tags.specs.Numbers.{numbersOf, bitsOf, sides, codings, bitsIn, shortIn, numberIn, planarIn, Single, numbersIn, Readable, elevenOf, twelveOf}
+use Rattle.tags.specs.Tagging.{heldAt, viewOf, tableRules, taggedBy, taggedOf, Ready, Fitting}
+use Rattle.tags.proofs.Slots.{Slot, slot, nine-is, ten-is}
+use Rattle.tags.proofs.Rules.{Lined, LinedAt, lined, needed-lined, eleven-is, twelve-is}
+
+-- ---- one value
+
+module _ (f : List ℕ) (hs : List Held) (typs counts starts lens : List ℕ) (t k : ℕ) (s : Slot f hs typs counts starts lens t k) where
+  pub kind-is : {a b l m : ℕ} → Lined hs t a b l m → eqb (getD typs k 0) a || eqb (getD typs k 0) b ≡ true
+  kind-is {a} {b} g = subst (λ (x : ℕ). eqb x a || eqb x b ≡ true) (s .typ) (g .kind)
+
+  -- a tag with one type
+  pub typ-is : {a l m : ℕ} → Lined hs t a a l m → getD typs k 0 ≡ a
+  typ-is g = eqb-true _ _ (or-same _ (kind-is g))
+
+  -- a tag of count m
+  pub count-is : {a b m : ℕ} → Lined hs t a b m m → getD counts k 0 ≡ m
+  count-is g = sym (s .count) ∙ omega (arith, g .low, g .high)
+
+  len-one : {a b : ℕ} → Lined hs t a b 1 1 → getD lens k 0 ≡ sizeOf (getD typs k 0)
+  len-one g = s .size ∙ ap (λ (x : ℕ). sizeOf (getD typs k 0) * x) (count-is g) ∙ mul-one (sizeOf (getD typs k 0))
+
+  pub single-is : Lined hs t 3 4 1 1 → Single (length f) (getD typs k 0) (getD starts k 0)
+  single-is g = record { kind = kind-is g; within = subst (λ (x : ℕ). getD starts k 0 + x ≤ length f) (len-one g) (s .within) }
+
+  pub short-within : Lined hs t 3 3 1 1 → getD starts k 0 + 2 ≤ length f
+  unfolding sizeOf
+  short-within g = subst (λ (x : ℕ). getD starts k 0 + x ≤ length f) (len-one g ∙ ap sizeOf (typ-is g)) (s .within)
+
+  -- the value itself
+  pub number-is : (big : Bool) {a b : ℕ} → Lined hs t a b 1 1 → numberIn big f (getD typs k 0) (getD starts k 0) ≡ valueOf big t hs
+  unfolding numberIn valueOf
+  number-is big g = rw (s .typ, s .bytes, len-one g)
+
+  pub short-is : (big : Bool) → Lined hs t 3 3 1 1 → shortIn big f (getD starts k 0) ≡ valueOf big t hs
+  unfolding shortIn numberIn sizeOf
+  short-is big g = sym (ap (λ (x : ℕ). numberIn big f x (getD starts k 0)) (typ-is g)) ∙ number-is big g
+
+-- ---- all values
+
+module _ (f : List ℕ) (big : Bool) (at c : ℕ) (typs counts starts lens : List ℕ) (w : Fitting f big at c typs counts starts lens) where
+  slotAt : (k : ℕ) → k < 17 → Slot f (heldAt f big at c) typs counts starts lens (tagAt k) k
+  slotAt k h = slot f big at c typs counts starts lens (w .ready) k h
+
+  needed : (k : ℕ) → k < 17 → lineAt k .needed ≡ true → LinedAt (heldAt f big at c) k
+  needed k h n = needed-lined (heldAt f big at c) (w .nine) (w .ten) k h n
+
+  planar-within : getD starts 9 0 + 2 ≤ length f
+  unfolding lineAt tagAt table
+  planar-within = go (eqb (getD starts 9 0) 0) refl
+    where
+      go : (b : Bool) → eqb (getD starts 9 0) 0 ≡ b → getD starts 9 0 + 2 ≤ length f
+      go true e = omega (arith, eqb-true (getD starts 9 0) 0 e, w .ready .low, w .ready .whole)
+      go false e =
+          let p : has 284 (heldAt f big at c) ≡ true = slotAt 9 (lit< tt) .present ∙ ap not e in
+          short-within f (heldAt f big at c) typs counts starts lens 284 9 (slotAt 9 (lit< tt)) (lined (heldAt f big at c) (w .ten) 9 (lit< tt) p)
+
+  planar-is : planarIn big f (getD starts 9 0) ≡ numbersOf big (heldAt f big at c) .planar
+  unfolding planarIn numbersOf lineAt tagAt table
+  planar-is = go (eqb (getD starts 9 0) 0) refl
+    where
+      go : (b : Bool) → eqb (getD starts 9 0) 0 ≡ b
+          → cond (eqb (getD starts 9 0) 0) 1 (shortIn big f (getD starts 9 0)) ≡ cond (has 284 (heldAt f big at c)) (valueOf big 284 (heldAt f big at c)) 1
+      go true e =
+          let p : has 284 (heldAt f big at c) ≡ false = slotAt 9 (lit< tt) .present ∙ ap not e in
+          rw (e, p)
+      go false e =
+          let p : has 284 (heldAt f big at c) ≡ true = slotAt 9 (lit< tt) .present ∙ ap not e in
+          rw (e, p) (short-is f (heldAt f big at c) typs counts starts lens 284 9 (slotAt 9 (lit< tt)) big (lined (heldAt f big at c) (w .ten) 9 (lit< tt) p))
+
+  pub readable : Readable (length f) typs starts
+  unfolding lineAt tagAt table
+  readable =
+      let hs = heldAt f big at c in
+      record {
+        width = single-is f hs typs counts starts lens 256 0 (slotAt 0 (lit< tt)) (needed 0 (lit< tt) refl);
+        length = single-is f hs typs counts starts lens 257 1 (slotAt 1 (lit< tt)) (needed 1 (lit< tt) refl);
+        compression = short-within f hs typs counts starts lens 259 3 (slotAt 3 (lit< tt)) (needed 3 (lit< tt) refl);
+        photometric = short-within f hs typs counts starts lens 262 4 (slotAt 4 (lit< tt)) (needed 4 (lit< tt) refl);
+        samples = short-within f hs typs counts starts lens 277 6 (slotAt 6 (lit< tt)) (needed 6 (lit< tt) refl);
+        rows = single-is f hs typs counts starts lens 278 7 (slotAt 7 (lit< tt)) (needed 7 (lit< tt) refl);
+        planar = planar-within;
+      }
+
+  pub numbers-are : numbersIn big f typs starts ≡ numbersOf big (heldAt f big at c)
+  unfolding numbersIn numbersOf lineAt tagAt table
+  numbers-are =
+      let hs = heldAt f big at c in
+      let p0 = number-is f hs typs counts starts lens 256 0 (slotAt 0 (lit< tt)) big (needed 0 (lit< tt) refl) in
+      let p1 = number-is f hs typs counts starts lens 257 1 (slotAt 1 (lit< tt)) big (needed 1 (lit< tt) refl) in
+      let p3 = short-is f hs typs counts starts lens 259 3 (slotAt 3 (lit< tt)) big (needed 3 (lit< tt) refl) in
+      let p4 = short-is f hs typs counts starts lens 262 4 (slotAt 4 (lit< tt)) big (needed 4 (lit< tt) refl) in
+      let p6 = short-is f hs typs counts starts lens 277 6 (slotAt 6 (lit< tt)) big (needed 6 (lit< tt) refl) in
+      let p7 = number-is f hs typs counts starts lens 278 7 (slotAt 7 (lit< tt)) big (needed 7 (lit< tt) refl) in
+      λ i. record { width = p0 i; length = p1 i; compression = p3 i; photometric = p4 i; samples = p6 i; rows = p7 i; planar = planar-is i }
+
+  bits-typ : getD typs 2 0 ≡ 3
+  unfolding lineAt tagAt table
+  bits-typ = typ-is f (heldAt f big at c) typs counts starts lens 258 2 (slotAt 2 (lit< tt)) (needed 2 (lit< tt) refl)
+
+  pub bits-are : bitsIn big (getD counts 2 0) (run f (getD starts 2 0) (getD lens 2 0)) ≡ bitsOf big (heldAt f big at c)
+  unfolding bitsIn bitsOf valueOf valuesOf sizeOf lineAt tagAt table
+  bits-are =
+      let s : Slot f (heldAt f big at c) typs counts starts lens 258 2 = slotAt 2 (lit< tt) in
+      rw (s .typ, s .count, s .bytes, bits-typ)
+
+  -- the values of 258 lie in its part
+  pub bits-some : 0 < getD counts 2 0
+  unfolding lineAt tagAt table
+  bits-some =
+      let s : Slot f (heldAt f big at c) typs counts starts lens 258 2 = slotAt 2 (lit< tt) in
+      let l : Lined (heldAt f big at c) 258 3 3 1 4294967295 = needed 2 (lit< tt) refl in
+      omega (arith, l .low, s .count)
+
+  pub bits-end : getD starts 2 0 + getD lens 2 0 ≤ length f
+  unfolding lineAt tagAt table
+  bits-end = slotAt 2 (lit< tt) .within
+
+  pub bits-room : 2 * getD counts 2 0 ≤ length (run f (getD starts 2 0) (getD lens 2 0))
+  unfolding sizeOf lineAt tagAt table
+  bits-room =
+      let s : Slot f (heldAt f big at c) typs counts starts lens 258 2 = slotAt 2 (lit< tt) in
+      let e : getD lens 2 0 ≡ 2 * getD counts 2 0 = s .size ∙ ap (λ (x : ℕ). sizeOf x * getD counts 2 0) bits-typ in
+      omega (arith, run-length-in f (getD starts 2 0) (getD lens 2 0) (s .within))
+
+-- ---- what kept rules say of the values
+
+in-range : (a b v : ℕ) → not (allows (between a b ∷ []) v) ≡ false → (a ≤ v) × (v ≤ b)
+unfolding allows some
+in-range a b v h =
+    let p = and-eq (leb a v) (leb v b) (sym (or-false (leb a v && leb v b)) ∙ not-false _ h) in
+    (leb-true a v (p .0), leb-true v b (p .1))
+
+-- rule 11 kept
+pub record Allowed (n : Numbers) : Type 0 where
+  pub width-low : 1 ≤ n .width
+  pub width-high : n .width ≤ 1000000
+  pub length-low : 1 ≤ n .length
+  pub length-high : n .length ≤ 1000000
+  pub rows-low : 1 ≤ n .rows
+
+pub eleven-gives : (n : Numbers) (depths : Bool) → elevenOf n depths ≡ kept → Allowed n
+unfolding elevenOf
+eleven-gives n depths h =
+    let last = cond (not (allows (just 1 ∷ []) (n .planar))) (broken 284) kept in
+    let rows = cond (not (allows (between 1 more ∷ []) (n .rows))) (broken 278) last in
+    let samples = cond (not (allows (between 1 8 ∷ []) (n .samples))) (broken 277) rows in
+    let light = cond (not (allows (between 0 3 ∷ []) (n .photometric))) (broken 262) samples in
+    let coding = cond (not (allows codings (n .compression))) (broken 259) light in
+    let a = kept-cond (not (allows sides (n .width))) 256 _ h in
+    let b = kept-cond (not (allows sides (n .length))) 257 (cond (not depths) (broken 258) coding) (a .1) in
+    let d = kept-cond (not depths) 258 coding (b .1) in
+    let e = kept-cond (not (allows codings (n .compression))) 259 light (d .1) in
+    let g = kept-cond (not (allows (between 0 3 ∷ []) (n .photometric))) 262 samples (e .1) in
+    let i = kept-cond (not (allows (between 1 8 ∷ []) (n .samples))) 277 rows (g .1) in
+    let j = kept-cond (not (allows (between 1 more ∷ []) (n .rows))) 278 last (i .1) in
+    let w = in-range 1 1000000 (n .width) (a .0) in
+    let l = in-range 1 1000000 (n .length) (b .0) in
+    let r = in-range 1 4294967295 (n .rows) (j .0) in
+    record { width-low = w .0; width-high = w .1; length-low = l .0; length-high = l .1; rows-low = r .0 }
+
+first-both : (b : Bool) (p : ℕ) (os : List Outcome) → firstOf (breaks b p ∷ os) ≡ kept → (b ≡ false) × (firstOf os ≡ kept)
+unfolding firstOf
+first-both true p os h = (cc, cc)
+first-both false p os h = (refl, h)
+
+-- rule 12 kept
+pub record Agreed (n : Numbers) (offsets sizes : ℕ) : Type 0 where
+  pub offsets-are : offsets ≡ stripCount (n .length) (n .rows)
+  pub sizes-are : sizes ≡ stripCount (n .length) (n .rows)
+
+pub twelve-gives : (n : Numbers) (b : Bits) (depths offsets sizes : ℕ) → twelveOf n b depths offsets sizes ≡ kept → Agreed n offsets sizes
+unfolding twelveOf
+twelve-gives n b depths offsets sizes h =
+    let strips = stripCount (n .length) (n .rows) in
+    let last = breaks (not (eqb sizes strips)) 279 ∷ [] in
+    let more = breaks (not (eqb offsets strips)) 273 ∷ last in
+    let coded = (eqb (n .compression) 2 || eqb (n .compression) 32773) && (not (eqb (b .first) 1) || not (eqb (n .samples) 1)) in
+    let x = first-both (not (eqb depths (n .samples)) || not (b .same)) 258 (breaks coded 259 ∷ more) h in
+    let y = first-both coded 259 more (x .1) in
+    let z = first-both (not (eqb offsets strips)) 273 last (y .1) in
+    let u = first-both (not (eqb sizes strips)) 279 [] (z .1) in
+    record { offsets-are = eqb-true _ _ (not-false _ (z .0)); sizes-are = eqb-true _ _ (not-false _ (u .0)) }
+
+-- ---- one law for each answer
+
+abbrev pub refusedAs : ℕ → ℕ → Tagged
+refusedAs k p = record { verdict = verdict k p; width = 0; length = 0 }
+
+module _ (f : List ℕ) (big : Bool) (at c : ℕ) (typs counts starts lens : List ℕ) (r : Ready f big at c typs counts starts lens) (o : Outcome) (is-o : o ≡ nineOf starts) where
+  nine-same : o ≡ rule9 table (heldAt f big at c)
+  nine-same = is-o ∙ nine-is f big at c typs counts starts lens r
+
+  pub refused-nine : (x : Tagged) (p : ℕ) → o ≡ broken p → x ≡ refusedAs 9 p → x ≡ taggedOf (viewOf f big at c)
+  unfolding taggedOf taggedBy viewOf tableRules first
+  refused-nine x p h e = rw (e, ← nine-same, h)
+
+  module _ (h : o ≡ kept) (u : Outcome) (is-u : u ≡ tenFrom 0 typs counts starts) where
+    ten-same : u ≡ rule10 table (heldAt f big at c)
+    ten-same = is-u ∙ ten-is f big at c typs counts starts lens r
+
+    pub refused-ten : (x : Tagged) (p : ℕ) → u ≡ broken p → x ≡ refusedAs 10 p → x ≡ taggedOf (viewOf f big at c)
+    unfolding taggedOf taggedBy viewOf tableRules first
+    refused-ten x p g e = rw (e, ← nine-same, h, ← ten-same, g)
+
+    pub fitting : u ≡ kept → Fitting f big at c typs counts starts lens
+    fitting g = record { ready = r; nine = sym nine-same ∙ h; ten = sym ten-same ∙ g }
+
+module _ (f : List ℕ) (big : Bool) (at c : ℕ) (typs counts starts lens : List ℕ) (w : Fitting f big at c typs counts starts lens) (n : Numbers) (b : Bits)
+    (is-n : n ≡ numbersIn big f typs starts)
+    (is-b : b ≡ bitsIn big (getD counts 2 0) (run f (getD starts 2 0) (getD starts 2 0 + getD lens 2 0 - getD starts 2 0)))
+    (o : Outcome) (is-o : o ≡ elevenOf n (b .allowed)) where
+  n-same : n ≡ numbersOf big (heldAt f big at c)
+  n-same = is-n ∙ numbers-are f big at c typs counts starts lens w
+
+  b-same : b ≡ bitsOf big (heldAt f big at c)
+  b-same =
+      is-b
+      ∙ ap (λ (l : ℕ). bitsIn big (getD counts 2 0) (run f (getD starts 2 0) l)) (add-sub-cancel-left (getD starts 2 0) (getD lens 2 0))
+      ∙ bits-are f big at c typs counts starts lens w
+
+  eleven-same : o ≡ rule11 table big (heldAt f big at c)
+  eleven-same =
+      is-o ∙ ap₂ (λ (m : Numbers) (x : Bits). elevenOf m (x .allowed)) n-same b-same ∙ eleven-is big (heldAt f big at c) (w .nine) (w .ten)
+
+  pub refused-eleven : (x : Tagged) (p : ℕ) → o ≡ broken p → x ≡ refusedAs 11 p → x ≡ taggedOf (viewOf f big at c)
+  unfolding taggedOf taggedBy viewOf tableRules first
+  refused-eleven x p h e = rw (e, w .nine, w .ten, ← eleven-same, h)
+
+  module _ (h : o ≡ kept) where
+    pub rows-some : 0 < n .rows
+    rows-some = eleven-gives n (b .allowed) (sym is-o ∙ h) .rows-low
+
+    module _ (u : Outcome) (is-u : u ≡ twelveOf n b (getD counts 2 0) (getD counts 5 0) (getD counts 8 0)) where
+      twelve-same : u ≡ rule12 big (heldAt f big at c)
+      unfolding tagAt lineAt table
+      twelve-same =
+          let s2 = slot f big at c typs counts starts lens (w .ready) 2 (lit< tt) .count in
+          let s5 = slot f big at c typs counts starts lens (w .ready) 5 (lit< tt) .count in
+          let s8 = slot f big at c typs counts starts lens (w .ready) 8 (lit< tt) .count in
+          is-u
+          ∙ ap₂ (λ (m : Numbers) (x : Bits). twelveOf m x (getD counts 2 0) (getD counts 5 0) (getD counts 8 0)) n-same b-same
+          ∙ (λ i. twelveOf (numbersOf big (heldAt f big at c)) (bitsOf big (heldAt f big at c)) (sym s2 i) (sym s5 i) (sym s8 i))
+          ∙ twelve-is big (heldAt f big at c)
+
+      pub refused-twelve : (x : Tagged) (p : ℕ) → u ≡ broken p → x ≡ refusedAs 12 p → x ≡ taggedOf (viewOf f big at c)
+      unfolding taggedOf taggedBy viewOf tableRules first
+      refused-twelve x p g e = rw (e, w .nine, w .ten, ← eleven-same, h, ← twelve-same, g)
+
+      pub accepted : u ≡ kept → record { verdict = verdict 0 0; width = n .width; length = n .length } ≡ taggedOf (viewOf f big at c)
+      unfolding taggedOf taggedBy viewOf tableRules first numbersOf
+      accepted g = rw (w .nine, w .ten, ← eleven-same, h, ← twelve-same, g, n-same)

@@ -1,0 +1,231 @@
+-- What the columns of a directory say of each tag of the table, and that rules 9 and 10 over the columns are those of the paper.
+-- A tag is present exactly where its start is not 0. Assumes nothing.
+use Prim.Native.Nat.{ℕ, zero, suc, _+_, _-_, _*_, _≤_, _<_}
+use mathlib.Core.Path.{_≡_, refl, sym, ap, ap₂, _∙_, subst}
+use mathlib.Core.Bool.{Bool, true, false, cond, not, _&&_, Bool·not-not}
+use mathlib.Core.List.{List, [], _∷_, _++_, map, map-map}
+use native.Mathlib.Nat.{not-suc-le-zero, le-of-suc-le-suc, zero-mul}
+use native.Mathlib.Omega.{arith}
+use lib.Dec.{eqb, ltb}
+use lib.ListN.{length, getD, List·getD-append, List·getD-map}
+use borrow.Author.Tests.{ne-eqb, eq-eqb, ltb-true, ltb-false, not-true}
+use Rattle.paper.specs.Bytes.{run, num}
+use Rattle.paper.specs.Outcome.{firstBad}
+use Rattle.paper.specs.Tests.{all}
+use Rattle.paper.specs.Layout.{dirLen, sizeOf, typed, startOf, entryOf, entryAt, entries, rule7}
+use Rattle.paper.specs.Tags.{Line, table, inTable, Held, find, findEntry, absent, has, bytesOf, lacks, rule9, fitsLine, misfits, rule10}
+use Rattle.paper.specs.declared.Entry.{Entry}
+use Rattle.paper.specs.declared.Outcome.{Outcome}
+use Rattle.paper.specs.declared.Outcome.the-variants.{Kept as kept, Broken as broken}
+use Rattle.paper.proofs.Laws.{all-at, first-same}
+use Rattle.paper.proofs.Loops.{find-entry}
+use Rattle.paper.proofs.Bounds.{noLine, entry-inside}
+use Rattle.layout.specs.Columns.{tags, fieldOf, column, typsOf, countsOf, startsOf, lensOf}
+use Rattle.layout.specs.Finding.{placeIn}
+use Rattle.layout.proofs.Sizes.{len-of}
+use Rattle.layout.proofs.Finding.{Found, found-place}
+use Rattle.layout.proofs.Values.{place-within, found-bytes, tag-in}
+use Rattle.tags.specs.Slots.{lineAt, tagAt, slots, lacksAt, nineOf, misfit, misfitAt, tenFrom}
+use Rattle.tags.specs.Tagging.{entriesAt, heldAt, Ready}
+
+-- ---- a column
+
+field-find : (field : Entry → ℕ) → field (absent .entry) ≡ 0 → (t : ℕ) (es : List Entry) → fieldOf field t es ≡ field (findEntry t es)
+unfolding fieldOf findEntry
+field-find field z t [] = sym z
+field-find field z t (e ∷ es) = go (eqb (e .tag) t) refl (field-find field z t es)
+  where
+    go : (b : Bool) → eqb (e .tag) t ≡ b → fieldOf field t es ≡ field (findEntry t es) → fieldOf field t (e ∷ es) ≡ field (findEntry t (e ∷ es))
+    go true p h = rw p
+    go false p h = rw p h
+
+at-map : (g : Line → ℕ) (ls : List Line) (d : Line) (k : ℕ) → k < length ls → getD (map g ls) k 0 ≡ g (getD ls k d)
+at-map g [] d k h = absurd (not-suc-le-zero h)
+at-map g (l ∷ ls) d zero h = refl
+at-map g (l ∷ ls) d (suc k) h = at-map g ls d k (le-of-suc-le-suc h)
+
+column-at : (field : Entry → ℕ) → field (absent .entry) ≡ 0 → (es : List Entry) (k : ℕ) → k < 17 → getD (column field es) k 0 ≡ field (findEntry (tagAt k) es)
+unfolding column tags tagAt lineAt table
+column-at field z es k h =
+    ap (λ (l : List ℕ). getD l k 0) (map-map (λ (t : ℕ). fieldOf field t es) (λ (l : Line). l .tag) table)
+    ∙ at-map (λ (l : Line). fieldOf field (l .tag) es) table noLine k h
+    ∙ field-find field z (tagAt k) es
+
+column-length : (field : Entry → ℕ) (es : List Entry) → length (column field es) ≡ 17
+unfolding column tags table
+column-length field es = refl
+
+-- with more numbers behind it
+column-front : (field : Entry → ℕ) → field (absent .entry) ≡ 0 → (es : List Entry) (ys : List ℕ) (k : ℕ) → k < 17
+    → getD (column field es ++ ys) k 0 ≡ field (findEntry (tagAt k) es)
+column-front field z es ys k h =
+    List·getD-append (column field es) ys 0 k (subst (λ (m : ℕ). k < m) (sym (column-length field es)) h) ∙ column-at field z es k h
+
+-- ---- an entry that is found
+
+untyped-start : (big : Bool) (at : ℕ) (dir : List ℕ) (p : ℕ) → typed (entryOf big at dir p) ≡ false → entryOf big at dir p .start ≡ at + (p + 8)
+unfolding entryOf startOf
+untyped-start big at dir p h =
+    let z : sizeOf (num big 2 dir (p + 2)) ≡ 0 = omega (arith, ltb-false 0 (sizeOf (num big 2 dir (p + 2))) h) in
+    rw (z, zero-mul (num big 4 dir (p + 4)))
+
+-- the entry e of tag t in a file of n bytes: present exactly where its start is not 0
+record Whole (n t : ℕ) (e : Entry) : Type 0 where
+  has : eqb (e .tag) t ≡ not (eqb (e .start) 0)
+  none : e .start ≡ 0 → e .len ≡ 0
+  size : e .len ≡ sizeOf (e .typ) * e .count
+  within : e .start + e .len ≤ n
+
+module _ (n at c : ℕ) (big : Bool) (dir : List ℕ) (low : 8 ≤ at) (fits : at + dirLen c ≤ n) (seven : rule7 n (entries big at c dir) ≡ kept) where
+  starts-behind : (i : ℕ) → i < c → 0 < entryAt big at dir i .start
+  starts-behind i l = go (typed (entryAt big at dir i)) refl
+    where
+      go : (b : Bool) → typed (entryAt big at dir i) ≡ b → 0 < entryAt big at dir i .start
+      go true q = omega (arith, entry-inside n at c big dir low fits seven i l q .low)
+      go false q = omega (arith, untyped-start big at dir (2 + 12 * i) q)
+
+  whole : (t : ℕ) → eqb 0 t ≡ false → Whole n t (findEntry t (entries big at c dir))
+  unfolding sizeOf
+  whole t z = go (placeIn t (entries big at c dir)) (found-place t big at c dir)
+    where
+      go : (p : ℕ) → Found t big at c dir p → Whole n t (findEntry t (entries big at c dir))
+      go zero h =
+          let w = place-within n at c big dir low fits seven zero (h .within) in
+          rw (h .none refl) record { has = z; none = λ e. refl; size = refl; within = omega arith }
+      go (suc p) h =
+          let l : 0 < suc p = omega arith in
+          let s : suc p - 1 ≡ p = omega arith in
+          let e : findEntry t (entries big at c dir) ≡ entryAt big at dir p = h .entry l ∙ ap (entryAt big at dir) s in
+          let b : 0 < findEntry t (entries big at c dir) .start = subst (λ (x : Entry). 0 < x .start) (sym e) (starts-behind p (omega (arith, h .within))) in
+          let y : findEntry t (entries big at c dir) .start ≡ 0 → ⊥ = λ q. omega arith in
+          record {
+            has = eq-eqb _ _ (h .tag l) ∙ sym (ap not (ne-eqb _ 0 y));
+            none = λ q. absurd (y q);
+            size = len-of big at dir (2 + 12 * p) _ e;
+            within =
+                subst (λ (x : Entry). x .start + x .len ≤ n) (h .found) (place-within n at c big dir low fits seven (suc p) (h .within));
+          }
+
+-- ---- a tag of the table
+
+tags-some : all (λ l. not (eqb 0 (l .tag))) table ≡ true
+unfolding all table
+tags-some = refl
+
+-- tag t, whose line is k, with its numbers in the columns
+pub record Slot (f : List ℕ) (hs : List Held) (typs counts starts lens : List ℕ) (t k : ℕ) : Type 0 where
+  pub typ : find t hs .entry .typ ≡ getD typs k 0
+  pub count : find t hs .entry .count ≡ getD counts k 0
+  pub start : find t hs .entry .start ≡ getD starts k 0
+  pub len : find t hs .entry .len ≡ getD lens k 0
+  pub bytes : bytesOf t hs ≡ run f (getD starts k 0) (getD lens k 0)
+  pub present : has t hs ≡ not (eqb (getD starts k 0) 0)
+  pub none : getD starts k 0 ≡ 0 → getD lens k 0 ≡ 0
+  pub size : getD lens k 0 ≡ sizeOf (getD typs k 0) * getD counts k 0
+  pub within : getD starts k 0 + getD lens k 0 ≤ length f
+
+module _ (f : List ℕ) (big : Bool) (at c : ℕ) (typs counts starts lens : List ℕ) (r : Ready f big at c typs counts starts lens) where
+  -- the entry of tag k
+  abbrev Of : ℕ → Entry
+  Of k = findEntry (tagAt k) (entriesAt f big at c)
+
+  held-is : (k : ℕ) → find (tagAt k) (heldAt f big at c) .entry ≡ Of k
+  unfolding heldAt
+  held-is k = find-entry table f (tagAt k) (entriesAt f big at c)
+
+  typ-is : (k : ℕ) → k < 17 → Of k .typ ≡ getD typs k 0
+  unfolding typsOf
+  typ-is k h = sym (ap (λ (l : List ℕ). getD l k 0) (r .typs-are) ∙ column-at (λ (e : Entry). e .typ) refl (entriesAt f big at c) k h)
+
+  count-is : (k : ℕ) → k < 17 → Of k .count ≡ getD counts k 0
+  unfolding countsOf
+  count-is k h = sym (ap (λ (l : List ℕ). getD l k 0) (r .counts-are) ∙ column-at (λ (e : Entry). e .count) refl (entriesAt f big at c) k h)
+
+  start-is : (k : ℕ) → k < 17 → Of k .start ≡ getD starts k 0
+  unfolding startsOf
+  start-is k h = sym (ap (λ (l : List ℕ). getD l k 0) (r .starts-are) ∙ column-front (λ (e : Entry). e .start) refl (entriesAt f big at c) _ k h)
+
+  len-is : (k : ℕ) → k < 17 → Of k .len ≡ getD lens k 0
+  unfolding lensOf
+  len-is k h = sym (ap (λ (l : List ℕ). getD l k 0) (r .lens-are) ∙ column-front (λ (e : Entry). e .len) refl (entriesAt f big at c) _ k h)
+
+  tag-some : (k : ℕ) → k < 17 → eqb 0 (tagAt k) ≡ false
+  unfolding tagAt lineAt table
+  tag-some k h = not-true _ (all-at (λ (l : Line). not (eqb 0 (l .tag))) table noLine tags-some k h)
+
+  tag-listed : (k : ℕ) → k < 17 → inTable table (tagAt k) ≡ true
+  unfolding tagAt lineAt tags
+  tag-listed k h = subst (λ (t : ℕ). inTable table t ≡ true) (List·getD-map (λ (l : Line). l .tag) table k noLine) (tag-in k h)
+
+  whole-at : (k : ℕ) → k < 17 → Whole (length f) (tagAt k) (Of k)
+  unfolding entriesAt
+  whole-at k h = whole (length f) at c big (run f at (dirLen c)) (r .low) (r .whole) (r .seven) (tagAt k) (tag-some k h)
+
+  bytes-are : (k : ℕ) → k < 17 → bytesOf (tagAt k) (heldAt f big at c) ≡ run f (Of k .start) (Of k .len)
+  unfolding heldAt entriesAt
+  bytes-are k h = found-bytes f (tagAt k) big at c (run f at (dirLen c)) (tag-listed k h)
+
+  pub slot : (k : ℕ) → k < 17 → Slot f (heldAt f big at c) typs counts starts lens (tagAt k) k
+  unfolding has
+  slot k h =
+      let s = start-is k h in
+      let l = len-is k h in
+      let w = whole-at k h in
+      record {
+        typ = ap (λ (e : Entry). e .typ) (held-is k) ∙ typ-is k h;
+        count = ap (λ (e : Entry). e .count) (held-is k) ∙ count-is k h;
+        start = ap (λ (e : Entry). e .start) (held-is k) ∙ s;
+        len = ap (λ (e : Entry). e .len) (held-is k) ∙ l;
+        bytes = bytes-are k h ∙ ap₂ (run f) s l;
+        present = ap (λ (e : Entry). eqb (e .tag) (tagAt k)) (held-is k) ∙ w .has ∙ ap (λ (x : ℕ). not (eqb x 0)) s;
+        none = λ z. sym l ∙ w .none (s ∙ z);
+        size = sym l ∙ w .size ∙ ap₂ (λ (x y : ℕ). sizeOf x * y) (typ-is k h) (count-is k h);
+        within = subst (λ (x : ℕ). x + getD lens k 0 ≤ length f) s (subst (λ (y : ℕ). Of k .start + y ≤ length f) l (w .within));
+      }
+
+-- ---- rules 9 and 10
+
+first-map : {A B : Type 0} (bad : B → Bool) (place : B → ℕ) (g : A → B) (xs : List A)
+    → firstBad bad place (map g xs) ≡ firstBad (λ (x : A). bad (g x)) (λ (x : A). place (g x)) xs
+unfolding firstBad
+first-map bad place g [] = refl
+first-map bad place g (x ∷ xs) = ap (λ (o : Outcome). cond (bad (g x)) (broken (place (g x))) o) (first-map bad place g xs)
+
+slots-low : all (λ k. ltb k 17) slots ≡ true
+unfolding all slots
+slots-low = refl
+
+lines : map lineAt slots ≡ table
+unfolding lineAt slots table
+lines = refl
+
+-- a test of each line, and one of each line's numbers
+first-slots : (bad : Line → Bool) (test : ℕ → Bool) → ((k : ℕ) → k < 17 → bad (lineAt k) ≡ test k)
+    → firstBad test tagAt slots ≡ firstBad bad (λ l. l .tag) table
+unfolding tagAt
+first-slots bad test h =
+    sym
+    (ap (firstBad bad (λ (l : Line). l .tag)) (sym lines)
+    ∙ first-map bad (λ (l : Line). l .tag) lineAt slots
+    ∙ first-same (λ (k : ℕ). bad (lineAt k)) test tagAt slots 0 (λ i l. h (getD slots i 0) (ltb-true _ 17 (all-at (λ (k : ℕ). ltb k 17) slots 0 slots-low i l))))
+
+module _ (f : List ℕ) (big : Bool) (at c : ℕ) (typs counts starts lens : List ℕ) (r : Ready f big at c typs counts starts lens) where
+  lacks-at : (k : ℕ) → k < 17 → lacks (heldAt f big at c) (lineAt k) ≡ lacksAt starts k
+  unfolding lacks lacksAt tagAt
+  lacks-at k h =
+      let s = slot f big at c typs counts starts lens r k h in
+      ap (λ (b : Bool). lineAt k .needed && b) (ap not (s .present) ∙ Bool·not-not (eqb (getD starts k 0) 0))
+
+  pub nine-is : nineOf starts ≡ rule9 table (heldAt f big at c)
+  unfolding nineOf rule9
+  nine-is = first-slots (lacks (heldAt f big at c)) (lacksAt starts) lacks-at
+
+  misfits-at : (k : ℕ) → k < 17 → misfits (heldAt f big at c) (lineAt k) ≡ misfitAt typs counts starts k
+  unfolding misfits misfitAt misfit fitsLine tagAt
+  misfits-at k h =
+      let s = slot f big at c typs counts starts lens r k h in
+      rw (s .present, s .typ, s .count)
+
+  pub ten-is : tenFrom 0 typs counts starts ≡ rule10 table (heldAt f big at c)
+  unfolding tenFrom rule10
+  ten-is = first-slots (misfits (heldAt f big at c)) (misfitAt typs counts starts) misfits-at

@@ -1,0 +1,4 @@
+-- The definitions of this crate, file by file. Assumes nothing.
+pub mod Slots
+pub mod Numbers
+pub mod Tagging

@@ -1,0 +1,70 @@
+-- What rules 9 to 12 answer for a file whose directory keeps rules 1 to 8: the first broken rule with its place, or the picture's width and
+-- length; and what is known of the columns that a pass over the directory left. Assumes nothing.
+use Prim.Native.Nat.{ℕ, _+_, _≤_, _<_}
+use mathlib.Core.Path.{_≡_}
+use mathlib.Core.Bool.{Bool, cond}
+use mathlib.Core.List.{List, [], _∷_, map}
+use lib.ListN.{length}
+use Rattle.paper.specs.Bytes.{run}
+use Rattle.paper.specs.Outcome.{Rule, _▸_, first}
+use Rattle.paper.specs.Layout.{dirLen, entries, rule7}
+use Rattle.paper.specs.Tag
+use Rattle.paper.specs.Tags.{table, Held, hold, valueOf, rule9, rule10, rule11, rule12}
+use Rattle.paper.specs.Judge.{View}
+use Rattle.paper.specs.Calls.{accepts}
+use Rattle.paper.specs.declared.Entry.{Entry}
+use Rattle.paper.specs.declared.Outcome.the-variants.{Kept as kept}
+use Rattle.paper.specs.declared.Verdict.{Verdict}
+use Rattle.layout.specs.Columns.{typsOf, countsOf, startsOf, lensOf}
+use Rattle.tags.specs.declared.Tagged.{Tagged}
+
+-- the entries of the directory at a place of the file, and these with their value bytes
+unfoldable pub entriesAt : List ℕ → Bool → ℕ → ℕ → List Entry
+entriesAt f big at c = entries big at c (run f at (dirLen c))
+
+unfoldable pub heldAt : List ℕ → Bool → ℕ → ℕ → List Held
+heldAt f big at c = map (hold table f) (entriesAt f big at c)
+
+unfoldable pub viewOf : List ℕ → Bool → ℕ → ℕ → View
+viewOf f big at c =
+    record { table = table; head = record { size = length f; big = big; at = at }; count = c; held = heldAt f big at c }
+
+-- rules 9 to 12
+unfoldable pub tableRules : View → List Rule
+tableRules v =
+    9 ▸ rule9 (v .table) (v .held)
+    ∷ 10 ▸ rule10 (v .table) (v .held)
+    ∷ 11 ▸ rule11 (v .table) (v .head .big) (v .held)
+    ∷ 12 ▸ rule12 (v .head .big) (v .held)
+    ∷ []
+
+-- width and length go with verdict 0 only
+unfoldable pub taggedBy : Verdict → View → Tagged
+taggedBy w v =
+    record {
+      verdict = w;
+      width = cond (accepts w) (valueOf (v .head .big) Tag.width (v .held)) 0;
+      length = cond (accepts w) (valueOf (v .head .big) Tag.length (v .held)) 0;
+    }
+
+unfoldable pub taggedOf : View → Tagged
+taggedOf v = taggedBy (first (tableRules v)) v
+
+-- the directory lies in the file and keeps rule 7, and the columns are those of its entries
+pub record Ready (f : List ℕ) (big : Bool) (at c : ℕ) (typs counts starts lens : List ℕ) : Type 0 where
+  pub size : length f ≤ 4294967295
+  pub low : 8 ≤ at
+  pub some : 0 < c
+  pub few : c ≤ 1024
+  pub whole : at + dirLen c ≤ length f
+  pub typs-are : typs ≡ typsOf (entriesAt f big at c)
+  pub counts-are : counts ≡ countsOf (entriesAt f big at c)
+  pub starts-are : starts ≡ startsOf at (entriesAt f big at c)
+  pub lens-are : lens ≡ lensOf c (entriesAt f big at c)
+  pub seven : rule7 (length f) (entriesAt f big at c) ≡ kept
+
+-- the same where rules 9 and 10 are kept
+pub record Fitting (f : List ℕ) (big : Bool) (at c : ℕ) (typs counts starts lens : List ℕ) : Type 0 where
+  pub ready : Ready f big at c typs counts starts lens
+  pub nine : rule9 table (heldAt f big at c) ≡ kept
+  pub ten : rule10 table (heldAt f big at c) ≡ kept

@@ -1,0 +1,123 @@
+//! Writes the files that the program `vectors` judges, with what it must print:
+//! data DIR [SEED] fills DIR/data, DIR/args and DIR/stdout. There is file A with
+//! its marked changes, and for each clause of rules 1 to 22 the smallest
+//! targeted file beyond its boundary and within it, in both byte orders; files
+//! that stand in DIR/real are taken in as they are.
+
+use outside::generator::{random, targeted, Call};
+use outside::reader::{judge, key_rows, Row};
+use std::collections::BTreeMap;
+use std::fmt::Write;
+use std::path::Path;
+
+/// No file above this size is kept.
+const LARGEST: usize = 4000;
+
+fn main() {
+    let mut arguments = std::env::args().skip(1);
+    let folder = arguments.next().expect("data DIR [SEED]");
+    let seed = arguments.next().and_then(|word| word.parse().ok()).unwrap_or(1);
+    let folder = Path::new(&folder);
+    let mut files = clauses(seed);
+    files.extend(marked());
+    files.extend(mixed(seed));
+    files.extend(real(&folder.join("real")));
+    write(folder, &files).expect("the files are written");
+    println!("{} files", files.len());
+}
+
+/// File A, and document 01's marked changes of it.
+fn marked() -> BTreeMap<String, Vec<u8>> {
+    let a: &[u8] = include_bytes!("../../../crates/bench/stdin");
+    let exchanged = [0x01, 0x04, 0, 0, 1, 0, 1, 0, 0x00, 0x04, 0, 0, 1, 0, 1, 0];
+    let changes: [(&str, usize, &[u8]); 12] = [
+        ("as-it-is", 0, &[]),
+        ("big-endian-mark", 0, &[0x4D, 0x4D]),
+        ("next-offset-8", 154, &[8, 0, 0, 0]),
+        ("strip-at-263", 78, &[0x07, 0x01]),
+        ("strip-at-261", 78, &[0x05, 0x01]),
+        ("minor-revision-1", 234, &[1, 0]),
+        ("1024-and-1025-exchanged", 238, &exchanged),
+        ("1025-at-34737", 248, &[0xB1, 0x87]),
+        ("1024-is-2", 244, &[2, 0]),
+        ("3072-is-32662", 260, &[0x96, 0x7F]),
+        ("scale-x-0", 158, &[0; 8]),
+        ("1025-is-2", 252, &[2, 0]),
+    ];
+    let mut files: BTreeMap<String, Vec<u8>> = BTreeMap::new();
+    for (name, at, bytes) in changes {
+        let mut file = a.to_vec();
+        file[at..at + bytes.len()].copy_from_slice(bytes);
+        files.insert(format!("A-{name}"), file);
+    }
+    files.insert("A-empty".into(), Vec::new());
+    files
+}
+
+/// The smallest file of each clause, side and byte order.
+fn clauses(seed: u64) -> BTreeMap<String, Vec<u8>> {
+    let mut best: BTreeMap<String, Vec<u8>> = BTreeMap::new();
+    for case in targeted(seed) {
+        if !matches!(case.call, Call::Judge) || case.file.len() > LARGEST {
+            continue;
+        }
+        let order = if case.file.starts_with(b"MM") { "MM" } else { "II" };
+        let side = if case.broken { "broken" } else { "kept" };
+        let clause: String =
+            case.clause.chars().map(|c| if c.is_ascii_alphanumeric() { c } else { '-' }).collect();
+        let name = format!("{clause}-{side}-{order}");
+        match best.get(&name) {
+            Some(other) if other.len() <= case.file.len() => {}
+            _ => {
+                best.insert(name, case.file);
+            }
+        }
+    }
+    best
+}
+
+/// Accepted files of the random mix, for their variety.
+fn mixed(seed: u64) -> BTreeMap<String, Vec<u8>> {
+    let files = random(seed, 200).into_iter().enumerate();
+    let small = files.filter(|(_, sample)| !sample.damaged && sample.file.len() <= LARGEST);
+    small.take(40).map(|(number, sample)| (format!("valid-{number:04}"), sample.file)).collect()
+}
+
+/// Files of other producers.
+fn real(folder: &Path) -> BTreeMap<String, Vec<u8>> {
+    let mut files = BTreeMap::new();
+    for entry in std::fs::read_dir(folder).into_iter().flatten().flatten() {
+        let name = entry.file_name().to_string_lossy().replace('.', "-");
+        files.insert(format!("real-{name}"), std::fs::read(entry.path()).expect("a file"));
+    }
+    files
+}
+
+/// What the program prints for one file.
+fn lines(name: &str, file: &[u8]) -> String {
+    let judged = judge(file);
+    let mut text = format!("{name} verdict {} place {}\n", judged.verdict.number, judged.verdict.place);
+    if judged.verdict.number == 0 {
+        let mut rows = [Row { key: 0, kind: 0, first: 0, length: 0 }; 256];
+        let (_, keys) = key_rows(file, &mut rows);
+        let _ = writeln!(text, "keys {keys}");
+        for row in &rows[..keys as usize] {
+            let _ = writeln!(text, "{} {} {} {}", row.key, row.kind, row.first, row.length);
+        }
+    }
+    text
+}
+
+fn write(folder: &Path, files: &BTreeMap<String, Vec<u8>>) -> std::io::Result<()> {
+    let data = folder.join("data");
+    let _ = std::fs::remove_dir_all(&data);
+    std::fs::create_dir_all(&data)?;
+    let (mut names, mut text) = (String::new(), String::new());
+    for (name, file) in files {
+        std::fs::write(data.join(name), file)?;
+        let _ = writeln!(names, "{name}");
+        text += &lines(name, file);
+    }
+    std::fs::write(folder.join("args"), names)?;
+    std::fs::write(folder.join("stdout"), text)
+}
