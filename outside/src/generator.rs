@@ -4,10 +4,11 @@
 //! `plan` describes a file and lays it out to bytes; `keyplan` does so for the
 //! keys; `valid` draws files that keep every rule; `damage` spoils them at
 //! random; `targeted` breaks each clause at its exact boundary and states the
-//! verdict by construction.
+//! verdict by construction; `large` makes files of very many strips.
 
 pub mod damage;
 pub mod keyplan;
+pub mod large;
 pub mod plan;
 pub mod prng;
 pub mod targeted;

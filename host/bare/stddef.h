@@ -1,0 +1,5 @@
+/* size_t from the compiler itself: for a compiler that comes without headers. */
+#ifndef BARE_STDDEF_H
+#define BARE_STDDEF_H
+typedef __SIZE_TYPE__ size_t;
+#endif

@@ -1,0 +1,156 @@
+//! The two judges on the same files: the compiled one and the fast Rust one.
+//!
+//!   speed write FOLDER           the files, as frames: a length and the bytes
+//!   speed time FRAMES            the best time of many passes, and the ratio
+//!   speed run CALL PASSES FRAMES one call only, for counting instructions
+//!
+//! All but `write` need the static library linked. outside/speed runs it.
+
+use outside::generator::large::many_strips;
+use outside::generator::sample;
+use outside::reader::Order;
+use std::path::Path;
+use std::process::ExitCode;
+
+const SEED: u64 = 7;
+const FILES: usize = 10_000;
+
+fn main() -> ExitCode {
+    let words: Vec<String> = std::env::args().skip(1).collect();
+    let words: Vec<&str> = words.iter().map(String::as_str).collect();
+    match words[..] {
+        ["write", folder] => write_all(Path::new(folder)),
+        ["time", path] => measure::time(&load(path)),
+        ["run", call, passes, path] => match passes.parse() {
+            Ok(passes) => measure::run(call, passes, &load(path)),
+            Err(_) => return usage(),
+        },
+        _ => return usage(),
+    }
+    ExitCode::SUCCESS
+}
+
+fn usage() -> ExitCode {
+    eprintln!("speed write FOLDER\nspeed time FRAMES\nspeed run CALL PASSES FRAMES");
+    ExitCode::FAILURE
+}
+
+/// The mix with every second file damaged, the same of each byte order alone,
+/// and one file each of many strips.
+fn write_all(folder: &Path) {
+    let mix = || (0..).map(|number| sample(SEED, number).file);
+    let of_order = |mark: u8| mix().filter(move |file| file.first() == Some(&mark));
+    write(folder, "mixed", mix().take(FILES));
+    write(folder, "little", of_order(0x49).take(FILES));
+    write(folder, "big", of_order(0x4D).take(FILES));
+    for (name, strips) in [("strips-40000", 40_000), ("strips-1000000", 1_000_000)] {
+        write(folder, name, [many_strips(Order::Little, strips, 3)].into_iter());
+    }
+}
+
+fn write(folder: &Path, name: &str, files: impl Iterator<Item = Vec<u8>>) {
+    let mut frames = Vec::new();
+    for file in files {
+        frames.extend_from_slice(&(file.len() as u32).to_le_bytes());
+        frames.extend_from_slice(&file);
+    }
+    std::fs::write(folder.join(name), frames).expect("a folder to write to");
+}
+
+/// The files of a run of frames.
+fn load(path: &str) -> Vec<Vec<u8>> {
+    let frames = std::fs::read(path).unwrap_or_else(|why| panic!("{path}: {why}"));
+    let (mut files, mut rest) = (Vec::new(), &frames[..]);
+    while let Some((length, after)) = rest.split_first_chunk::<4>() {
+        let (file, after) = after.split_at(u32::from_le_bytes(*length) as usize);
+        files.push(file.to_vec());
+        rest = after;
+    }
+    files
+}
+
+#[cfg(not(direct))]
+mod measure {
+    pub fn time(_: &[Vec<u8>]) {
+        panic!("the static library is not linked: x86-64, or LINK_DIR");
+    }
+
+    pub fn run(_: &str, _: usize, _: &[Vec<u8>]) {
+        time(&[]);
+    }
+}
+
+#[cfg(direct)]
+mod measure {
+    use outside::compiled::{ground_into, verdict_of, Raw};
+    use outside::fast;
+    use std::hint::black_box;
+    use std::time::Instant;
+
+    /// The calls by name; each gives a sum of its answer.
+    const CALLS: [(&str, fn(&[Vec<u8>]) -> u64); 4] = [
+        ("compiled-ground", |files| pass(files, compiled_ground)),
+        ("fast-ground", |files| pass(files, fast_ground)),
+        ("compiled-judge", |files| pass(files, |file| sum(verdict_of(file)))),
+        ("fast-judge", |files| pass(files, |file| sum(fast::verdict(file)))),
+    ];
+
+    #[inline(always)]
+    fn pass(files: &[Vec<u8>], call: impl Fn(&[u8]) -> u64) -> u64 {
+        files.iter().fold(0, |all, file| all.wrapping_add(call(black_box(file))))
+    }
+
+    #[inline(always)]
+    fn sum((verdict, place): (u32, u32)) -> u64 {
+        u64::from(verdict) << 32 | u64::from(place)
+    }
+
+    #[inline(always)]
+    fn compiled_ground(file: &[u8]) -> u64 {
+        let mut raw = Raw { verdict: 0, place: 0, form: 0, six: [0.0; 6], corners: [0.0; 4] };
+        ground_into(file, &mut raw);
+        sum((raw.verdict, raw.place)) ^ raw.corners[3].to_bits()
+    }
+
+    #[inline(always)]
+    fn fast_ground(file: &[u8]) -> u64 {
+        let mut ground = fast::Ground::default();
+        sum(fast::judge(file, &mut ground)) ^ ground.corners[3].to_bits()
+    }
+
+    /// Passes take about this long in all, for each call.
+    const SECONDS: f64 = 1.5;
+
+    /// The best and the middle time of each call, the passes of all in turn.
+    pub fn time(files: &[Vec<u8>]) {
+        let sums = CALLS.map(|(_, call)| call(files));
+        assert!(sums[0] == sums[1] && sums[2] == sums[3], "the judges differ: {sums:?}");
+        let mut times = CALLS.map(|_| Vec::new());
+        let start = Instant::now();
+        while start.elapsed().as_secs_f64() < SECONDS * CALLS.len() as f64 {
+            for (at, (_, call)) in CALLS.iter().enumerate() {
+                let start = Instant::now();
+                assert_eq!(black_box(call(files)), sums[at]);
+                times[at].push(start.elapsed().as_secs_f64() * 1e9 / files.len() as f64);
+            }
+        }
+        let best = times.map(|mut all| {
+            all.sort_unstable_by(f64::total_cmp);
+            (all[0], all[all.len() / 2], all.len())
+        });
+        for (at, (name, _)) in CALLS.iter().enumerate() {
+            let (least, middle, passes) = best[at];
+            println!("  {name:16} {least:10.1} ns a file, middle {middle:.1}, {passes} passes");
+        }
+        let ratio = |one: usize| best[one].0 / best[one + 1].0;
+        println!("  ratio of the best: ground {:.2}, judge {:.2}", ratio(0), ratio(2));
+    }
+
+    /// So many passes of one call.
+    pub fn run(name: &str, passes: usize, files: &[Vec<u8>]) {
+        let found = CALLS.iter().find(|call| call.0 == name);
+        let Some((_, call)) = found else { panic!("no call {name}") };
+        let total = (0..passes).fold(0u64, |all, _| all.wrapping_add(call(files)));
+        println!("{} files, sum {total:016x}", files.len());
+    }
+}

@@ -1,0 +1,372 @@
+//! The entries of the directory and the tags of the table: rules 6 to 12.
+
+use super::number::{long_at, short, short_at};
+use super::{refuse, Refusal};
+
+const BYTE: u32 = 1;
+const ASCII: u32 = 2;
+pub const SHORT: u32 = 3;
+const LONG: u32 = 4;
+const DOUBLE: u32 = 12;
+
+/// The place of each tag of the table in the array, in ascending order.
+pub mod slot {
+    pub const WIDTH: usize = 0;
+    pub const LENGTH: usize = 1;
+    pub const BITS: usize = 2;
+    pub const COMPRESSION: usize = 3;
+    pub const PHOTOMETRIC: usize = 4;
+    pub const STRIP_OFFSETS: usize = 5;
+    pub const SAMPLES: usize = 6;
+    pub const ROWS_PER_STRIP: usize = 7;
+    pub const STRIP_BYTE_COUNTS: usize = 8;
+    pub const PLANAR: usize = 9;
+    pub const SCALE: usize = 10;
+    pub const TIEPOINT: usize = 11;
+    pub const MATRIX: usize = 12;
+    pub const KEY_DIRECTORY: usize = 13;
+    pub const DOUBLES: usize = 14;
+    pub const CHARACTERS: usize = 15;
+    pub const METADATA: usize = 16;
+    pub const ALL: usize = 17;
+}
+
+use slot::*;
+
+/// The tags of the table, and one more that no entry has.
+const TAGS: [u32; ALL + 1] = [
+    256, 257, 258, 259, 262, 273, 277, 278, 279, 284, 33550, 33922, 34264, 34735, 34736, 34737,
+    50909, 65_536,
+];
+
+const SLOTS: [usize; 10] = [
+    WIDTH,
+    LENGTH,
+    BITS,
+    COMPRESSION,
+    PHOTOMETRIC,
+    STRIP_OFFSETS,
+    SAMPLES,
+    ROWS_PER_STRIP,
+    STRIP_BYTE_COUNTS,
+    KEY_DIRECTORY,
+];
+
+/// The needed tags as a set of bits.
+const NEEDED: u32 = {
+    let (mut set, mut at) = (0, 0);
+    while at < SLOTS.len() {
+        set |= 1 << SLOTS[at];
+        at += 1;
+    }
+    set
+};
+
+/// An entry of the table as the pass over the directory leaves it.
+#[derive(Clone, Copy, Default)]
+pub struct Entry {
+    pub kind: u32,
+    pub count: u32,
+    /// The entry's last four bytes as a LONG.
+    field: u32,
+    /// The first byte of the value in the file.
+    pub at: u32,
+}
+
+impl Entry {
+    /// Whether the entry has this type and so many elements.
+    #[inline(always)]
+    fn is(&self, kind: u32, count: u32) -> bool {
+        self.kind == kind && self.count == count
+    }
+
+    #[inline(always)]
+    fn is_number(&self) -> bool {
+        self.kind == SHORT || self.kind == LONG
+    }
+
+    /// The one number of an entry of count 1, from its last four bytes.
+    #[inline(always)]
+    fn number<const BIG: bool>(&self) -> u32 {
+        match (self.kind == SHORT, BIG) {
+            (true, true) => self.field >> 16,
+            (true, false) => self.field & 0xFFFF,
+            _ => self.field,
+        }
+    }
+}
+
+/// The tags of the table, and the parts of the reading list from the
+/// directory on: each its first byte and the byte behind it. The last part is
+/// room for a value that does not count.
+pub struct Tags {
+    entries: [Entry; ALL],
+    present: u32,
+    parts: [(u32, u32); ALL + 2],
+    used: usize,
+    pub width: u32,
+    pub length: u32,
+}
+
+/// The sizes of types 1 to 12 as powers of two.
+static SIZES: [u8; 12] = [0, 0, 1, 2, 3, 0, 0, 1, 2, 3, 2, 3];
+
+/// Rule 7: the byte behind a value that stands at its offset, 0 for one that
+/// is in its entry or has no bytes, none if the rule is broken.
+#[inline(always)]
+fn value_end(kind: u32, count: u32, offset: u32, n: u64) -> Option<u64> {
+    let Some(power) = SIZES.get(kind.wrapping_sub(1) as usize) else { return Some(0) };
+    let size = u64::from(count) << power;
+    if size > 4 {
+        let end = u64::from(offset) + size;
+        if !offset.is_multiple_of(2) || offset < 8 || end > n {
+            return None;
+        }
+        return Some(end);
+    }
+    if size == 0 {
+        return None;
+    }
+    Some(0)
+}
+
+/// Rule 6 for the entries behind one that breaks rule 7.
+#[cold]
+#[inline(never)]
+fn rule7<T, const BIG: bool>(rest: &[[u8; 12]], tag: u32) -> Result<T, Refusal> {
+    let mut last = tag;
+    for entry in rest {
+        let later = u32::from(short_at::<BIG, 12>(entry, 0));
+        if later <= last {
+            return refuse(6, later);
+        }
+        last = later;
+    }
+    refuse(7, tag)
+}
+
+impl Tags {
+    /// No tags yet, of a directory at `at` with `count` entries.
+    #[inline(always)]
+    pub fn new(at: u32, count: u32) -> Self {
+        let mut parts = [(0, 0); ALL + 2];
+        parts[0] = (at, at + 2 + 12 * count + 4);
+        Tags { entries: [Entry::default(); ALL], present: 0, parts, used: 1, width: 0, length: 0 }
+    }
+
+    /// Rules 6 to 12.
+    #[inline(always)]
+    pub fn rules6to12<const BIG: bool>(
+        &mut self,
+        file: &[u8],
+        entries: &[[u8; 12]],
+        next: &[u8; 4],
+    ) -> Result<(), Refusal> {
+        self.rules6and7::<BIG>(file.len() as u64, entries)?;
+        if *next != [0; 4] {
+            return refuse(8, 0);
+        }
+        let missing = NEEDED & !self.present;
+        if missing != 0 {
+            return refuse(9, TAGS[missing.trailing_zeros() as usize]);
+        }
+        self.rule10()?;
+        self.rule11::<BIG>(file)?;
+        self.rule12::<BIG>(file)
+    }
+
+    /// Rules 6 and 7; what the entries of the table say is kept.
+    #[inline(always)]
+    fn rules6and7<const BIG: bool>(&mut self, n: u64, entries: &[[u8; 12]]) -> Result<(), Refusal> {
+        let (mut last, mut slot, mut used, mut present) = (-1, 0, 1, 0);
+        let mut here = self.parts[0].0 + 10;
+        let mut rest = entries.iter();
+        while let Some(entry) = rest.next() {
+            let tag = u32::from(short_at::<BIG, 12>(entry, 0));
+            if tag as i32 <= last {
+                return refuse(6, tag);
+            }
+            last = tag as i32;
+            // tags ascend, and so does the place in the table
+            while TAGS[slot] < tag {
+                slot += 1;
+            }
+            let known = TAGS[slot] == tag;
+            let kind = u32::from(short_at::<BIG, 12>(entry, 2));
+            let count = long_at::<BIG, 12>(entry, 4);
+            let field = long_at::<BIG, 12>(entry, 8);
+            let Some(end) = value_end(kind, count, field, n) else {
+                return rule7::<_, BIG>(rest.as_slice(), tag);
+            };
+            let mut at = here;
+            here = here.wrapping_add(12);
+            if end != 0 {
+                at = field;
+                self.parts[used] = (at, end as u32);
+                used += usize::from(known);
+            }
+            if known {
+                self.entries[slot] = Entry { kind, count, field, at };
+                present |= 1 << slot;
+            }
+        }
+        (self.used, self.present) = (used, present);
+        Ok(())
+    }
+
+    /// Rule 10, lowest tag first. By rule 7 no known type has count 0.
+    #[inline(always)]
+    fn rule10(&self) -> Result<(), Refusal> {
+        let fault = match self.fault_of_picture() {
+            0 => self.fault_of_rest(),
+            tag => tag,
+        };
+        if fault != 0 {
+            return refuse(10, fault);
+        }
+        Ok(())
+    }
+
+    /// The lowest tag from 256 to 279 that breaks rule 10, or 0.
+    #[inline(always)]
+    fn fault_of_picture(&self) -> u32 {
+        let e = &self.entries;
+        let one = |slot: usize| e[slot].is_number() && e[slot].count == 1;
+        if !one(WIDTH) {
+            256
+        } else if !one(LENGTH) {
+            257
+        } else if e[BITS].kind != SHORT {
+            258
+        } else if !e[COMPRESSION].is(SHORT, 1) {
+            259
+        } else if !e[PHOTOMETRIC].is(SHORT, 1) {
+            262
+        } else if !e[STRIP_OFFSETS].is_number() {
+            273
+        } else if !e[SAMPLES].is(SHORT, 1) {
+            277
+        } else if !one(ROWS_PER_STRIP) {
+            278
+        } else if !e[STRIP_BYTE_COUNTS].is_number() {
+            279
+        } else {
+            0
+        }
+    }
+
+    /// The lowest tag from 284 on that breaks rule 10, or 0.
+    #[inline(always)]
+    fn fault_of_rest(&self) -> u32 {
+        let e = &self.entries;
+        let lacks = |slot: usize| !self.has(slot);
+        if !(lacks(PLANAR) || e[PLANAR].is(SHORT, 1)) {
+            284
+        } else if !(lacks(SCALE) || e[SCALE].is(DOUBLE, 3)) {
+            33550
+        } else if !(lacks(TIEPOINT) || e[TIEPOINT].is(DOUBLE, 6)) {
+            33922
+        } else if !(lacks(MATRIX) || e[MATRIX].is(DOUBLE, 16)) {
+            34264
+        } else if e[KEY_DIRECTORY].kind != SHORT || e[KEY_DIRECTORY].count < 4 {
+            34735
+        } else if !(lacks(DOUBLES) || e[DOUBLES].kind == DOUBLE) {
+            34736
+        } else if !(lacks(CHARACTERS) || e[CHARACTERS].kind == ASCII) {
+            34737
+        } else if !(lacks(METADATA) || e[METADATA].kind == BYTE) {
+            50909
+        } else {
+            0
+        }
+    }
+
+    pub fn has(&self, slot: usize) -> bool {
+        self.present >> slot & 1 == 1
+    }
+
+    pub fn entry(&self, slot: usize) -> &Entry {
+        &self.entries[slot]
+    }
+
+    /// The directory and every value of the table that is not inside it.
+    #[inline(always)]
+    pub fn parts(&self) -> &[(u32, u32)] {
+        &self.parts[..self.used]
+    }
+
+    /// The bytes of a present tag with elements of `size` bytes.
+    #[inline(always)]
+    pub fn value<'f>(&self, file: &'f [u8], slot: usize, size: usize) -> &'f [u8] {
+        let entry = &self.entries[slot];
+        let at = entry.at as usize;
+        &file[at..at + size * entry.count as usize]
+    }
+
+    #[inline(always)]
+    fn number<const BIG: bool>(&self, slot: usize) -> u32 {
+        self.entries[slot].number::<BIG>()
+    }
+
+    #[inline(always)]
+    fn bits<'f>(&self, file: &'f [u8]) -> &'f [[u8; 2]] {
+        self.value(file, BITS, 2).as_chunks::<2>().0
+    }
+
+    /// Rule 11, lowest tag first.
+    #[inline(always)]
+    fn rule11<const BIG: bool>(&mut self, file: &[u8]) -> Result<(), Refusal> {
+        let number = |slot: usize| self.number::<BIG>(slot);
+        (self.width, self.length) = (number(WIDTH), number(LENGTH));
+        let number = |slot: usize| self.number::<BIG>(slot);
+        let depth = |two: &[u8; 2]| matches!(short::<BIG>(*two), 1 | 8 | 16 | 32);
+        let fault = if self.width.wrapping_sub(1) >= 1_000_000 {
+            256
+        } else if self.length.wrapping_sub(1) >= 1_000_000 {
+            257
+        } else if !self.bits(file).iter().all(depth) {
+            258
+        } else if !matches!(number(COMPRESSION), 1 | 2 | 32773) {
+            259
+        } else if number(PHOTOMETRIC) > 3 {
+            262
+        } else if number(SAMPLES).wrapping_sub(1) >= 8 {
+            277
+        } else if number(ROWS_PER_STRIP) == 0 {
+            278
+        } else if self.has(PLANAR) && number(PLANAR) != 1 {
+            284
+        } else {
+            return Ok(());
+        };
+        refuse(11, fault)
+    }
+
+    /// Rule 12, lowest tag first.
+    #[inline(always)]
+    fn rule12<const BIG: bool>(&self, file: &[u8]) -> Result<(), Refusal> {
+        let samples = self.number::<BIG>(SAMPLES);
+        let bits = self.bits(file);
+        if bits.len() as u32 != samples || bits[1..].iter().any(|other| *other != bits[0]) {
+            return refuse(12, 258);
+        }
+        let packed = self.number::<BIG>(COMPRESSION) != 1;
+        if packed && (samples != 1 || short::<BIG>(bits[0]) != 1) {
+            return refuse(12, 259);
+        }
+        let rows = u64::from(self.number::<BIG>(ROWS_PER_STRIP));
+        // count = length / rows, rounded up, without a division
+        let length = u64::from(self.length);
+        let fits = |slot: usize| {
+            let count = u64::from(self.entries[slot].count);
+            (count - 1) * rows < length && length <= count * rows
+        };
+        if !fits(STRIP_OFFSETS) {
+            return refuse(12, 273);
+        }
+        if !fits(STRIP_BYTE_COUNTS) {
+            return refuse(12, 279);
+        }
+        Ok(())
+    }
+}

@@ -1,0 +1,50 @@
+//! The fast judge agrees with the second reader: else its speed says nothing.
+
+use outside::compiled::{expected, fast};
+use outside::generator::large::many_strips;
+use outside::generator::plan::{Plan, Tag};
+use outside::generator::{sample, targeted, Call};
+use outside::reader::tables::TAGS;
+use outside::reader::Order;
+
+fn agrees(file: &[u8]) {
+    let (got, want) = (fast(file), expected(file));
+    assert_eq!(got, want, "{file:02X?}");
+    assert_eq!(outside::fast::verdict(file), (want.verdict, want.place));
+}
+
+#[test]
+fn the_fast_judge_agrees_on_a_hundred_thousand_files() {
+    (0..100_000).for_each(|number| agrees(&sample(41, number).file));
+}
+
+#[test]
+fn the_fast_judge_agrees_on_the_targeted_cases() {
+    let plain = targeted(42).into_iter().filter(|case| matches!(case.call, Call::Judge));
+    plain.for_each(|case| agrees(&case.file));
+}
+
+/// Every tag of the table, and some behind it, with a value of its own.
+#[test]
+fn the_fast_judge_agrees_where_every_value_is_long() {
+    for order in [Order::Little, Order::Big] {
+        let mut plan = Plan::new(order);
+        let others = [60_000, 60_001, 60_002];
+        for tag in TAGS.iter().map(|row| row.tag).chain(others) {
+            plan.set(Tag::longs(tag, &[1, 2, 3, 4, 5, 6]));
+        }
+        agrees(&plan.lay().bytes);
+    }
+}
+
+#[test]
+fn the_fast_judge_agrees_on_many_strips() {
+    for order in [Order::Little, Order::Big] {
+        for strips in [1, 2, 3, 40_000] {
+            let file = many_strips(order, strips, 3);
+            assert_eq!(expected(&file).verdict, 0);
+            agrees(&file);
+            agrees(&file[..file.len() - 1]);
+        }
+    }
+}

@@ -1,0 +1,102 @@
+/* closed FILE, under valgrind's memcheck: judges each file that the program
+ * `lists` wrote to FILE, with every byte closed to reading that is not on its
+ * reading list. A read of such a byte, or of one outside the file, is an
+ * error that memcheck counts; only errors inside the calls are counted here. */
+#include "../../include/petalbuzz.h"
+#include <stdio.h>
+#include <stdlib.h>
+#include <string.h>
+#include <valgrind/memcheck.h>
+
+static FILE *in;
+
+/* Reads n bytes; 0 at the end of the file, and stops in the middle of one. */
+static int take(void *to, size_t n, int first) {
+    size_t got = fread(to, 1, n, in);
+    if (got == n) return 1;
+    if (got == 0 && first) return 0;
+    fprintf(stderr, "closed: the list of files is cut\n");
+    exit(2);
+}
+
+struct sums {
+    unsigned files, closed, errors, wrong;
+};
+
+/* Compares an answer with what it should be. */
+static void compare(const char *call, uint32_t verdict, uint32_t place, const uint32_t want[2], struct sums *sums) {
+    if (verdict == want[0] && place == want[1]) return;
+    printf("%s gives verdict %u place %u, not %u %u\n", call, verdict, place, want[0], want[1]);
+    sums->wrong++;
+}
+
+/* Judges the file as it lies there, by both calls. */
+static void judge(const uint8_t *file, size_t len, const uint32_t want[2], struct sums *sums) {
+    uint32_t verdict = 99, place = 99, form = 99;
+    double six[6], corners[4];
+    unsigned before = VALGRIND_COUNT_ERRORS;
+    petalbuzz_judge(file, len, &verdict, &place);
+    unsigned between = VALGRIND_COUNT_ERRORS;
+    compare("judge", verdict, place, want, sums);
+    verdict = place = 99;
+    petalbuzz_ground(file, len, &verdict, &place, &form, six, corners);
+    unsigned after = VALGRIND_COUNT_ERRORS;
+    compare("ground", verdict, place, want, sums);
+    if (after != before)
+        printf("verdict %u place %u, %zu bytes: %u errors in judge, %u in ground\n", want[0], want[1], len,
+               between - before, after - between);
+    sums->errors += after - before;
+}
+
+/* Closes a copy of the file, opens its list and judges it. */
+static void one(size_t len, const uint32_t want[2], uint32_t parts, struct sums *sums) {
+    uint32_t (*list)[2] = calloc(parts + 1, sizeof *list);
+    uint8_t *file = malloc(len ? len : 1);
+    if (!list || !file) exit(2);
+    take(list, parts * sizeof *list, 0);
+    if (len) take(file, len, 0);
+    VALGRIND_MAKE_MEM_NOACCESS(file, len ? len : 1);
+    unsigned open = 0;
+    for (uint32_t i = 0; i < parts; i++)
+        VALGRIND_MAKE_MEM_DEFINED(file + list[i][0], list[i][1] - list[i][0]);
+    for (size_t i = 0; i < len; i++) {
+        uint8_t bits;
+        open += VALGRIND_GET_VBITS(file + i, &bits, 1) == 1;
+    }
+    judge(file, len, want, sums);
+    sums->files++;
+    sums->closed += (unsigned)len - open;
+    VALGRIND_MAKE_MEM_DEFINED(file, len ? len : 1);
+    free(file);
+    free(list);
+}
+
+static volatile uint8_t kept; /* a read that nothing uses would be left out */
+
+/* Whether a read of a closed byte is seen, as everything here rests on it. */
+static int seen(void) {
+    volatile uint8_t *byte = malloc(1);
+    unsigned before = VALGRIND_COUNT_ERRORS;
+    if (!byte) exit(2);
+    VALGRIND_MAKE_MEM_NOACCESS(byte, 1);
+    kept = *byte;
+    return VALGRIND_COUNT_ERRORS == before + 1;
+}
+
+int main(int argc, char **argv) {
+    struct sums sums = {0, 0, 0, 0};
+    uint32_t head[4];
+    in = argc == 2 ? fopen(argv[1], "rb") : NULL;
+    if (!in || !RUNNING_ON_VALGRIND) {
+        fprintf(stderr, "closed FILE, under valgrind\n");
+        return 2;
+    }
+    if (!seen()) {
+        fprintf(stderr, "closed: memcheck does not see a read of a closed byte\n");
+        return 2;
+    }
+    while (take(head, sizeof head, 1)) one(head[0], head + 1, head[3], &sums);
+    printf("%u files, %u bytes closed: %u errors, %u wrong verdicts\n", sums.files, sums.closed, sums.errors,
+           sums.wrong);
+    return sums.files == 0 || sums.errors || sums.wrong;
+}
