@@ -1,5 +1,5 @@
 // Numbers of a file in either byte order: SHORT, LONG and the 64 bits of a DOUBLE at a place of a run. Each order is spelled whole in a
-// function of its own, so that a number is one load.
+// function of its own, the byte that counts least first, so that a number is one load.
 ghost use mathlib.Core.Path.{_≡_};
 ghost use mathlib.Core.Bool.{true, false};
 ghost use Prim.Native.Nat.{_+_, _*_, _≤_, _<_};
@@ -30,7 +30,7 @@ fn big2(s: &[u8], at: usize) -> usize
     requires { ⌜ at + 2 ≤ length (now s) ⌝ }
     ensures { λ r. ⌜ (r ≡ num true 2 (now (s .entry)) at) × (r < 65536) ⌝ }
 {
-    wide(s[at]) * 256 + wide(s[at + 1])
+    wide(s[at + 1]) + wide(s[at]) * 256
 }
 
 fn little4(s: &[u8], at: usize) -> usize
@@ -44,7 +44,7 @@ fn big4(s: &[u8], at: usize) -> usize
     requires { ⌜ at + 4 ≤ length (now s) ⌝ }
     ensures { λ r. ⌜ (r ≡ num true 4 (now (s .entry)) at) × (r < 4294967296) ⌝ }
 {
-    wide(s[at]) * 16777216 + wide(s[at + 1]) * 65536 + wide(s[at + 2]) * 256 + wide(s[at + 3])
+    wide(s[at + 3]) + wide(s[at + 2]) * 256 + wide(s[at + 1]) * 65536 + wide(s[at]) * 16777216
 }
 
 fn little8(s: &[u8], at: usize) -> u64

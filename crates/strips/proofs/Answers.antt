@@ -7,38 +7,39 @@ use native.Mathlib.Omega.{arith}
 use native.Mathlib.Nat.{sub-zero, mul-suc, mul-le-mul-left}
 use lib.Dec.{ltb, leb, eqb}
 use lib.ListN.{getD}
-use borrow.Author.Tests.{le-leb, lt-leb, eq-eqb, ne-eqb, eqb-false}
+use borrow.Author.Tests.{le-leb, lt-leb, eq-eqb, ne-eqb, eqb-false, ltb-false, le-ltb}
 use Rattle.paper.specs.Bytes.{num, build}
 use Rattle.paper.specs.Outcome.{firstBad, orElse, first, verdict}
 use Rattle.paper.specs.declared.Outcome.the-variants.{Kept as kept, Broken as broken}
-use Rattle.paper.specs.Tests.{some}
+use Rattle.paper.specs.Tests.{all, some}
 use Rattle.paper.specs.Strips.{Part, part, Strip, shares, placeAt, placesOf, badStrip, touches, rule13, rule14}
-use Rattle.paper.proofs.Laws.{build-step, or-false}
+use Rattle.paper.proofs.Laws.{build-step, or-false, or-both}
 use Rattle.paper.proofs.Loops.{build-end}
-use Rattle.strips.specs.Gaps.{whole, rangeAt, rangesOf, narrowed, gapOf, gapAt, fromPlace, placesJudged}
+use Rattle.strips.specs.Gaps.{whole, rangeAt, rangesOf, narrowed, gapOf, clear, fromPlace, placesJudged}
+use Rattle.strips.proofs.Gaps.{clear-free}
 use Rattle.strips.specs.declared.Gap.{Gap}
 use Rattle.paper.specs.declared.Verdict.{Verdict}
 
 -- ---- narrow
 
 module _ (g : Gap) (s e from len : ℕ) where
-  pub narrow-empty : len ≡ 0 → g ≡ narrowed g s e from len
-  unfolding narrowed
-  narrow-empty z = rw (eq-eqb len 0 z)
-
-  pub narrow-before : (lo : ℕ) → (len ≡ 0 → ⊥) → from + len ≤ s → lo ≡ max (g .lo) (from + len)
+  pub narrow-before : (lo : ℕ) → from + len ≤ s → lo ≡ max (g .lo) (from + len)
       → record { lo = lo; hi = g .hi; touch = g .touch } ≡ narrowed g s e from len
   unfolding narrowed
-  narrow-before lo z a q = rw (ne-eqb len 0 z, le-leb (from + len) s a, q)
+  narrow-before lo a q = rw (le-leb (from + len) s a, q)
 
-  pub narrow-behind : (hi : ℕ) → (len ≡ 0 → ⊥) → s < from + len → e ≤ from → hi ≡ min (g .hi) from
+  pub narrow-behind : (hi : ℕ) → s < from + len → e ≤ from → hi ≡ min (g .hi) from
       → record { lo = g .lo; hi = hi; touch = g .touch } ≡ narrowed g s e from len
   unfolding narrowed
-  narrow-behind hi z a b q = rw (ne-eqb len 0 z, lt-leb (from + len) s a, le-leb e from b, q)
+  narrow-behind hi a b q = rw (lt-leb (from + len) s a, le-leb e from b, q)
 
-  pub narrow-touch : (len ≡ 0 → ⊥) → s < from + len → from < e → record { lo = g .lo; hi = g .hi; touch = true } ≡ narrowed g s e from len
+  pub narrow-empty : s < from + len → from < e → len ≡ 0 → g ≡ narrowed g s e from len
   unfolding narrowed
-  narrow-touch z a b = rw (ne-eqb len 0 z, lt-leb (from + len) s a, lt-leb e from b)
+  narrow-empty a b z = rw (lt-leb (from + len) s a, lt-leb e from b, eq-eqb len 0 z)
+
+  pub narrow-touch : s < from + len → from < e → (len ≡ 0 → ⊥) → record { lo = g .lo; hi = g .hi; touch = true } ≡ narrowed g s e from len
+  unfolding narrowed
+  narrow-touch a b z = rw (lt-leb (from + len) s a, lt-leb e from b, ne-eqb len 0 z)
 
 -- ---- gap_of: the gap among the ranges from j on
 
@@ -63,16 +64,6 @@ unfolding rangesOf
 gap-end starts lens m s e j g z h =
     let a : j ≡ 0 = omega arith in
     h ∙ ap (λ (i : ℕ). gapOf s e (build (rangeAt starts lens) i (m - i))) a ∙ ap (λ (i : ℕ). gapOf s e (build (rangeAt starts lens) 0 i)) (sub-zero m)
-
--- ---- gap_at
-
-pub at-hand : (g : Gap) (s e : ℕ) (ps : List Part) → leb (g .lo) s && leb e (g .hi) ≡ true → g ≡ gapAt g s e ps
-unfolding gapAt
-at-hand g s e ps h = rw h
-
-pub at-other : (g r : Gap) (s e : ℕ) (ps : List Part) → leb (g .lo) s && leb e (g .hi) ≡ false → r ≡ gapOf s e ps → r ≡ gapAt g s e ps
-unfolding gapAt
-at-other g r s e ps h q = rw h q
 
 -- ---- places: one turn over place i
 
@@ -130,6 +121,34 @@ module _ (big : Bool) (a : ℕ) (offsets : List ℕ) (b : ℕ) (counts : List �
       pos : (x : ℕ) → (x ≡ 0 → ⊥) → 0 < x
       pos zero z = absurd (z refl)
       pos (suc x) z = suc-le-suc zero-le
+
+-- ---- a place that a search passes by
+
+  -- as code tests it: before the gap, without bytes, or past it
+  abbrev pub Stops : ℕ → ℕ → ℕ → Bool
+  Stops lo hi i =
+      ltb (num big a offsets (a * i)) lo
+      || (eqb (num big b counts (b * i)) 0 || ltb hi (num big a offsets (a * i) + num big b counts (b * i)))
+
+  module _ (lo hi i : ℕ) (passes : Stops lo hi i ≡ false) where
+    starts-in : lo ≤ num big a offsets (a * i)
+    starts-in = ltb-false _ _ (or-false (ltb (num big a offsets (a * i)) lo) _ passes .0)
+
+    rest-in : eqb (num big b counts (b * i)) 0 || ltb hi (num big a offsets (a * i) + num big b counts (b * i)) ≡ false
+    rest-in = or-false (ltb (num big a offsets (a * i)) lo) _ passes .1
+
+    ends-in : num big a offsets (a * i) + num big b counts (b * i) ≤ hi
+    ends-in = ltb-false _ _ (or-false (eqb (num big b counts (b * i)) 0) _ rest-in .1)
+
+    pub passed-13 : 8 ≤ lo → hi ≤ n → Bad i ≡ false
+    passed-13 l h =
+        let s = starts-in in
+        let e = ends-in in
+        or-both _ _ (or-false (eqb (num big b counts (b * i)) 0) _ rest-in .0)
+        (or-both _ _ (le-ltb (num big a offsets (a * i)) 8 (omega arith)) (le-ltb n (num big a offsets (a * i) + num big b counts (b * i)) (omega arith)))
+
+    pub passed-14 : (ps : List Part) → all (clear lo hi) ps ≡ true → some (shares (part (num big a offsets (a * i)) (num big b counts (b * i)))) ps ≡ false
+    passed-14 ps h = clear-free lo hi (num big a offsets (a * i)) (num big b counts (b * i)) ps starts-in ends-in h
 
 -- ---- the answers of judge_places, by the outcomes of the two rules
 

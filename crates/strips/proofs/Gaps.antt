@@ -12,12 +12,8 @@ use borrow.Author.Tests.{eqb-true, eqb-false, leb-true, leb-false, ltb-true, ltb
 use Rattle.paper.specs.Tests.{all, some}
 use Rattle.paper.specs.Strips.{Part, part, shares}
 use Rattle.paper.proofs.Laws.{and-eq, and-both, or-false}
-use Rattle.strips.specs.Gaps.{whole, narrowed, gapOf, gapAt}
+use Rattle.strips.specs.Gaps.{whole, narrowed, gapOf, clear}
 use Rattle.strips.specs.declared.Gap.{Gap}
-
--- a range that has no byte from lo up to hi
-unfoldable pub clear : ℕ → ℕ → Part → Bool
-clear lo hi p = eqb (p .len) 0 || (leb (p .start + p .len) lo || leb hi (p .start))
 
 abbrev pub Clear : Gap → List Part → Type 0
 Clear g ps = all (clear (g .lo) (g .hi)) ps ≡ true
@@ -82,7 +78,7 @@ unshared lo hi s l p a b h =
     behind : hi ≤ p .start → min (s + l) (p .start + p .len) ≤ max s (p .start)
     behind z = omega arith
 
-clear-free : (lo hi s l : ℕ) (ps : List Part) → lo ≤ s → s + l ≤ hi → all (clear lo hi) ps ≡ true → some (shares (part s l)) ps ≡ false
+pub clear-free : (lo hi s l : ℕ) (ps : List Part) → lo ≤ s → s + l ≤ hi → all (clear lo hi) ps ≡ true → some (shares (part s l)) ps ≡ false
 unfolding all some
 clear-free lo hi s l [] a b h = refl
 clear-free lo hi s l (p ∷ ps) a b h =
@@ -104,24 +100,38 @@ module _ (s l : ℕ) (some-bytes : 0 < l) where
   step g p = at (eqb (p .len) 0) (leb (p .start + p .len) s) (leb (s + l) (p .start)) refl refl refl
     where
       at : (a b c : Bool) → eqb (p .len) 0 ≡ a → leb (p .start + p .len) s ≡ b → leb (s + l) (p .start) ≡ c → Step g (narrowed g s (s + l) (p .start) (p .len)) p
-      at true b c x y z =
-          let e : p .len ≡ 0 = eqb-true _ _ x in
-          let n : shares (part s l) p ≡ false = shares-no s l p (omega arith) in
-          rw x (record { touches = sym (ap (λ (b : Bool). b || g .touch) n); here = λ t. clear-empty (g .lo) (g .hi) p e; low = omega arith; high = omega arith })
-      at false true c x y z =
+      at a true c x y z =
           let e : p .start + p .len ≤ s = leb-true _ _ y in
           let n : shares (part s l) p ≡ false = shares-no s l p (omega arith) in
-          rw (x, y) (record { touches = sym (ap (λ (b : Bool). b || g .touch) n); here = λ t. clear-before (max (g .lo) (p .start + p .len)) (g .hi) p (omega arith); low = omega arith; high = omega arith })
-      at false false true x y z =
+          rw y
+          (record {
+            touches = sym (ap (λ (b : Bool). b || g .touch) n);
+            here = λ t. clear-before (max (g .lo) (p .start + p .len)) (g .hi) p (omega arith);
+            low = omega arith;
+            high = omega arith;
+          })
+      at a false true x y z =
           let e : s + l ≤ p .start = leb-true _ _ z in
           let n : shares (part s l) p ≡ false = shares-no s l p (omega arith) in
-          rw (x, y, z) (record { touches = sym (ap (λ (b : Bool). b || g .touch) n); here = λ t. clear-behind (g .lo) (min (g .hi) (p .start)) p (omega arith); low = omega arith; high = omega arith })
+          rw (y, z)
+          (record {
+            touches = sym (ap (λ (b : Bool). b || g .touch) n);
+            here = λ t. clear-behind (g .lo) (min (g .hi) (p .start)) p (omega arith);
+            low = omega arith;
+            high = omega arith;
+          })
+      at true false false x y z =
+          let e : p .len ≡ 0 = eqb-true _ _ x in
+          let n : shares (part s l) p ≡ false = shares-no s l p (omega arith) in
+          rw (y, z, x)
+          (record { touches = sym (ap (λ (b : Bool). b || g .touch) n); here = λ t. clear-empty (g .lo) (g .hi) p e; low = omega arith; high = omega arith })
       at false false false x y z =
           let w : p .len ≡ 0 → ⊥ = eqb-false _ _ x in
           let u : s < p .start + p .len = leb-false _ _ y in
           let v : p .start < s + l = leb-false _ _ z in
           let n : shares (part s l) p ≡ true = shares-yes s l p (lemma (p .start) (p .len) w u v) in
-          rw (x, y, z) (record { touches = sym (ap (λ (b : Bool). b || g .touch) n); here = λ t. absurd (true≢false t); low = omega arith; high = omega arith })
+          rw (y, z, x)
+          (record { touches = sym (ap (λ (b : Bool). b || g .touch) n); here = λ t. absurd (true≢false t); low = omega arith; high = omega arith })
         where
           lemma : (a k : ℕ) → (k ≡ 0 → ⊥) → s < a + k → a < s + l → max s a < min (s + l) (a + k)
           lemma a zero w u v = absurd (w refl)
@@ -142,29 +152,12 @@ module _ (s l : ℕ) (some-bytes : 0 < l) where
       let y : gapOf s (s + l) ps .touch ≡ false = or-false (shares (part s l) p) _ (sym (x .touches) ∙ t) .1 in
       and-both _ _ (x .here t) (all-less _ _ _ _ ps (x .low) (x .high) (gap-clear ps y))
 
-  -- ---- the gap in hand, or the one around the place
-
-  module _ (g : Gap) (ps : List Part) (still : g .touch ≡ false) (free : Clear g ps) where
-    pub at-touch : gapAt g s (s + l) ps .touch ≡ some (shares (part s l)) ps
-    unfolding gapAt
-    at-touch = go (leb (g .lo) s && leb (s + l) (g .hi)) refl
-      where
-        go : (b : Bool) → leb (g .lo) s && leb (s + l) (g .hi) ≡ b → gapAt g s (s + l) ps .touch ≡ some (shares (part s l)) ps
-        go true e =
-            let c = and-eq (leb (g .lo) s) _ e in
-            rw e (still ∙ sym (clear-free (g .lo) (g .hi) s l ps (leb-true _ _ (c .0)) (leb-true _ _ (c .1)) free))
-        go false e = rw e (gap-touch ps)
-
-    pub at-clear : gapAt g s (s + l) ps .touch ≡ false → Clear (gapAt g s (s + l) ps) ps
-    unfolding gapAt
-    at-clear t = go (leb (g .lo) s && leb (s + l) (g .hi)) refl
-      where
-        go : (b : Bool) → leb (g .lo) s && leb (s + l) (g .hi) ≡ b → Clear (gapAt g s (s + l) ps) ps
-        go true e = rw e free
-        go false e = rw e (gap-clear ps (rw e at t))
+-- a narrower gap is clear too
+pub clear-within : (g : Gap) (n : ℕ) (ps : List Part) → Clear g ps → all (clear (max (g .lo) 8) (min (g .hi) n)) ps ≡ true
+clear-within g n ps h = all-less (g .lo) (g .hi) (max (g .lo) 8) (min (g .hi) n) ps (omega arith) (omega arith) h
 
 -- an empty gap is clear of any list
-pub none-clear : (ps : List Part) → Clear (record { lo = 0; hi = 0; touch = false }) ps
+pub none-clear : (ps : List Part) → all (clear 8 0) ps ≡ true
 unfolding all
 none-clear [] = refl
-none-clear (p ∷ ps) = and-both (clear 0 0 p) _ (clear-behind 0 0 p zero-le) (none-clear ps)
+none-clear (p ∷ ps) = and-both (clear 8 0 p) _ (clear-behind 8 0 p zero-le) (none-clear ps)

@@ -1,14 +1,17 @@
 -- The gaps of a reading list that is lent as two columns, the starts of its ranges and their lengths. Assumes nothing.
-use Prim.Native.Nat.{ℕ, zero, suc, _+_, _-_, _*_, _<_, min, max}
+use Prim.Native.Nat.{ℕ, zero, suc, _+_, _-_, _*_, _≤_, _<_, min, max}
+use mathlib.Core.Path.{_≡_}
 use mathlib.Core.Bool.{Bool, true, false, cond, _&&_, _||_}
 use mathlib.Core.List.{List, [], _∷_}
 use lib.Dec.{ltb, leb, eqb}
 use lib.ListN.{getD}
-use Rattle.paper.specs.Bytes.{build}
+use Rattle.paper.specs.Bytes.{num, build}
+use Rattle.paper.specs.Tests.{all}
 use Rattle.paper.specs.Outcome.{first, _▸_}
 use Rattle.paper.specs.Strips.{Part, part, Strip, placeAt, rule13, rule14}
 use Rattle.paper.specs.declared.Verdict.{Verdict}
 use Rattle.strips.specs.declared.Gap.{Gap}
+use Rattle.strips.specs.declared.Stop.{Stop}
 
 -- every number of a column is that of a file's part
 abbrev pub Low : List ℕ → Type 0
@@ -30,22 +33,33 @@ fromPlace big a offsets b counts i k = build (placeAt big a offsets b counts) i 
 abbrev pub whole : Gap
 whole = record { lo = 0; hi = 4294967295; touch = false }
 
--- the gap around a place, with one range more on the list: a range before it raises the low end, one behind it lowers the high end, any other touches
+-- the gap around a place, with one range more on the list: a range before it raises the low end, one behind it lowers the high end, any other with bytes touches
 unfoldable pub narrowed : Gap → ℕ → ℕ → ℕ → ℕ → Gap
 narrowed g start end from len =
-    cond (eqb len 0) g
-    (cond (leb (from + len) start) (record { lo = max (g .lo) (from + len); hi = g .hi; touch = g .touch })
+    cond (leb (from + len) start) (record { lo = max (g .lo) (from + len); hi = g .hi; touch = g .touch })
     (cond (leb end from) (record { lo = g .lo; hi = min (g .hi) from; touch = g .touch })
-    (record { lo = g .lo; hi = g .hi; touch = true })))
+    (cond (eqb len 0) g (record { lo = g .lo; hi = g .hi; touch = true })))
 
 -- with a whole list
 unfoldable pub gapOf : ℕ → ℕ → List Part → Gap
 gapOf start end [] = whole
 gapOf start end (p ∷ ps) = narrowed (gapOf start end ps) start end (p .start) (p .len)
 
--- the gap in hand where the place lies in it, and else the one around it
-unfoldable pub gapAt : Gap → ℕ → ℕ → List Part → Gap
-gapAt g start end ps = cond (leb (g .lo) start && leb end (g .hi)) g (gapOf start end ps)
+-- a range that has no byte from lo up to hi
+unfoldable pub clear : ℕ → ℕ → Part → Bool
+clear lo hi p = eqb (p .len) 0 || (leb (p .start + p .len) lo || leb hi (p .start))
+
+-- Where a search over the places stopped, and what it passed by: places that have bytes and lie from lo up to hi. They keep rule 13 where that is in the
+-- file, and rule 14 where no range of the list has a byte there.
+pub record Skipped (big : Bool) (a : ℕ) (offsets : List ℕ) (b : ℕ) (counts : List ℕ) (k lo hi from : ℕ) (s : Stop) : Type 0 where
+  pub low : from ≤ s .at
+  pub high : s .at ≤ k
+  pub start : s .at < k → s .start ≡ num big a offsets (a * s .at)
+  pub len : s .at < k → s .len ≡ num big b counts (b * s .at)
+  pub small : (s .start < 4294967296) × (s .len < 4294967296)
+  pub thirteen : (n : ℕ) → 8 ≤ lo → hi ≤ n → rule13 n (fromPlace big a offsets b counts from k) ≡ rule13 n (fromPlace big a offsets b counts (s .at) k)
+  pub fourteen : (ps : List Part) → all (clear lo hi) ps ≡ true
+      → rule14 ps (fromPlace big a offsets b counts from k) ≡ rule14 ps (fromPlace big a offsets b counts (s .at) k)
 
 -- rules 13 and 14, of places in a file of n bytes, with that reading list
 unfoldable pub placesJudged : ℕ → List Part → List Strip → Verdict

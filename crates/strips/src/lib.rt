@@ -8,7 +8,7 @@ ghost use lib.ListN.{length};
 ghost use Rattle.order.specs.Width.{width};
 ghost use Rattle.paper.specs.Outcome.{orElse, verdict};
 ghost use Rattle.paper.specs.Strips.{placesOf, rule13};
-ghost use Rattle.strips.specs.Gaps.{Low, fromPlace, rangesOf, narrowed, gapOf, gapAt, placesJudged};
+ghost use Rattle.strips.specs.Gaps.{Low, fromPlace, rangesOf, narrowed, gapOf, Skipped, placesJudged};
 use paper::Verdict;
 
 // A gap of the reading list: no byte from lo up to hi is on it. `touch` says that the place which was looked for shares a byte with the list.
@@ -16,6 +16,13 @@ pub struct Gap {
     pub lo: usize,
     pub hi: usize,
     pub touch: bool,
+}
+
+// A place at which a search stopped, with its offset and byte count.
+pub struct Stop {
+    pub at: usize,
+    pub start: usize,
+    pub len: usize,
 }
 
 // Rule 13 at one place.
@@ -49,9 +56,6 @@ fn narrow(g: Gap, start: usize, end: usize, from: usize, len: usize) -> Gap
     requires { ⌜ (from < 68719476736) × (len < 68719476736) ⌝ }
     ensures { λ r. ⌜ r ≡ narrowed g start end from len ⌝ }
 {
-    if len == 0 {
-        return g;
-    }
     let to = from + len;
     if to <= start {
         return Gap {
@@ -66,6 +70,9 @@ fn narrow(g: Gap, start: usize, end: usize, from: usize, len: usize) -> Gap
             hi: smaller(g.hi, from),
             touch: g.touch,
         };
+    }
+    if len == 0 {
+        return g;
     }
     Gap {
         lo: g.lo,
@@ -92,15 +99,35 @@ fn gap_of(starts: &[usize], lens: &[usize], m: usize, start: usize, end: usize) 
     g
 }
 
-// The gap in hand where the place lies in it, and else the one around it.
-fn gap_at(g: Gap, starts: &[usize], lens: &[usize], m: usize, start: usize, end: usize) -> Gap
-    requires { ⌜ (m ≤ length (now starts)) × (m ≤ length (now lens)) × Low (now starts) × Low (now lens) ⌝ }
-    ensures { λ r. ⌜ r ≡ gapAt g start end (rangesOf (now (starts .entry)) (now (lens .entry)) m) ⌝ }
+// The first place from `from` on that does not lie in the gap from lo up to hi, with its offset and byte count; k where all do.
+fn skip(
+    offsets: &[u8],
+    wideoffsets: bool,
+    counts: &[u8],
+    widecounts: bool,
+    big: bool,
+    from: usize,
+    k: usize,
+    lo: usize,
+    hi: usize,
+) -> Stop
+    requires { ⌜ (from ≤ k) × (k < 4294967296) × (width wideoffsets * k ≤ length (now offsets)) × (width widecounts * k ≤ length (now counts)) ⌝ }
+    ensures { λ r. ⌜ Skipped big (width wideoffsets) (now (offsets .entry)) (width widecounts) (now (counts .entry)) k lo hi from r ⌝ }
 {
-    if (g.lo <= start) & (end <= g.hi) {
-        return g;
+    let mut i = from;
+    while i < k {
+        let start = order::element(offsets, big, wideoffsets, i);
+        let len = order::element(counts, big, widecounts, i);
+        if (start < lo) | ((len == 0) | (hi < start + len)) {
+            return Stop { at: i, start, len };
+        }
+        i += 1;
     }
-    gap_of(starts, lens, m, start, end)
+    Stop {
+        at: k,
+        start: 0,
+        len: 0,
+    }
 }
 
 // Rule 13 from a place on, where an earlier place breaks rule 14 at `clash`.
@@ -152,37 +179,40 @@ pub fn judge_places(
     requires { ⌜ (k < 4294967296) × (width wideoffsets * k ≤ length (now offsets)) × (width widecounts * k ≤ length (now counts)) × (m ≤ length (now starts)) × (m ≤ length (now lens)) × Low (now starts) × Low (now lens) ⌝ }
     ensures { λ r. ⌜ r ≡ placesJudged n (rangesOf (now (starts .entry)) (now (lens .entry)) m) (placesOf big (width wideoffsets) (now (offsets .entry)) (width widecounts) (now (counts .entry)) k) ⌝ }
 {
-    let mut g = Gap {
-        lo: 0,
-        hi: 0,
-        touch: false,
-    };
+    let mut lo = 8;
+    let mut hi = 0;
     let mut i = 0;
     while i < k {
-        let start = order::element(offsets, big, wideoffsets, i);
-        let len = order::element(counts, big, widecounts, i);
-        if is_bad(start, len, n) {
+        let s = skip(offsets, wideoffsets, counts, widecounts, big, i, k, lo, hi);
+        if k <= s.at {
             return Verdict {
-                number: 13,
-                place: i as u32,
+                number: 0,
+                place: 0,
             };
         }
-        let next = gap_at(g, starts, lens, m, start, start + len);
-        if next.touch {
+        if is_bad(s.start, s.len, n) {
+            return Verdict {
+                number: 13,
+                place: s.at as u32,
+            };
+        }
+        let g = gap_of(starts, lens, m, s.start, s.start + s.len);
+        if g.touch {
             return after_clash(
                 offsets,
                 wideoffsets,
                 counts,
                 widecounts,
                 big,
-                i + 1,
+                s.at + 1,
                 k,
                 n,
-                i as u32,
+                s.at as u32,
             );
         }
-        g = next;
-        i += 1;
+        lo = larger(g.lo, 8);
+        hi = smaller(g.hi, n);
+        i = s.at + 1;
     }
     Verdict {
         number: 0,

@@ -2,7 +2,7 @@
 //! data DIR [SEED] fills DIR/data, DIR/args and DIR/stdout. There is file A with
 //! its marked changes, and for each clause of rules 1 to 22 the smallest
 //! targeted file beyond its boundary and within it, in both byte orders; files
-//! that stand in DIR/real are taken in as they are.
+//! of other producers, which `field` has, are taken in as they are.
 
 use outside::generator::{random, targeted, Call};
 use outside::reader::{judge, key_rows, Row};
@@ -21,7 +21,7 @@ fn main() {
     let mut files = clauses(seed);
     files.extend(marked());
     files.extend(mixed(seed));
-    files.extend(real(&folder.join("real")));
+    files.extend(real(&Path::new(env!("CARGO_MANIFEST_DIR")).join("field")));
     write(folder, &files).expect("the files are written");
     println!("{} files", files.len());
 }

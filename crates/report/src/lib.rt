@@ -1,0 +1,53 @@
+// What the programs print about a file: its verdict and, if it is accepted, its key rows. Document 01's bench lines.
+ghost use mathlib.Core.Path.{_≡_};
+ghost use Rattle.judge.specs.Examining.{examinedOf};
+use judge::Examined;
+use libc::STDOUT_FILENO;
+use paper::Row;
+
+// A text, and a number in decimal behind it.
+fn print_number(text: &[u8], number: u32) {
+    io::write_all(STDOUT_FILENO, text);
+    io::print_decimal(STDOUT_FILENO, number as u64);
+}
+
+// A key line: key, kind, first byte, length.
+fn print_row(row: Row) {
+    io::print_decimal(STDOUT_FILENO, row.key as u64);
+    print_number(b" ", row.kind);
+    print_number(b" ", row.first);
+    print_number(b" ", row.len);
+    io::write_all(STDOUT_FILENO, b"\n");
+}
+
+// The line of K, and a line for each key row of an accepted file.
+fn print_rows(file: &[u8], e: Examined)
+    requires { ⌜ (e ≡ examinedOf (now file)) × (e .judged .verdict .number ≡ 0) ⌝ }
+{
+    print_number(b"keys ", e.judged.keys);
+    io::write_all(STDOUT_FILENO, b"\n");
+    let k = e.judged.keys as usize;
+    let mut i = 0;
+    while i < k {
+        print_row(rows::row_at(file, e, i));
+        i += 1;
+    }
+}
+
+// Verdict and place on one line; of an accepted file then K and the key rows.
+pub fn print(file: &[u8]) {
+    let e = judge::examine(file);
+    print_number(b"verdict ", e.judged.verdict.number);
+    print_number(b" place ", e.judged.verdict.place);
+    io::write_all(STDOUT_FILENO, b"\n");
+    if e.judged.verdict.number == 0 {
+        print_rows(file, e);
+    }
+}
+
+// The same, with a name and a space in front.
+pub fn print_named(name: &[u8], file: &[u8]) {
+    io::write_all(STDOUT_FILENO, name);
+    io::write_all(STDOUT_FILENO, b" ");
+    print(file);
+}

@@ -1,0 +1,97 @@
+-- A row of an accepted file: all that is asked to make it, and that what is made is the paper's row. Assumes nothing.
+use Prim.Native.Nat.{ℕ, _+_, _*_, _≤_, _<_}
+use mathlib.Core.Path.{_≡_, sym, ap, _∙_, subst}
+use mathlib.Core.List.{List, []}
+use native.Mathlib.Omega.{arith}
+use lib.Dec.{lit<}
+use lib.ListN.{length}
+use Rattle.paper.specs.Bytes.{run}
+use Rattle.paper.specs.Tag
+use Rattle.paper.specs.Tags.{table, find}
+use Rattle.paper.specs.Keys.{Runs, keys, keyCount, keyAt, rule15, rule17}
+use Rattle.paper.specs.Judge.{view, runsOf, verdictOf}
+use Rattle.paper.specs.Calls.{Starts, startsOf, rowOf, rowAt, judgedIn}
+use Rattle.paper.specs.declared.Outcome.the-variants.{Kept as kept}
+use Rattle.paper.specs.declared.Row.{Row}
+use Rattle.paper.proofs.Laws.{run-length-in}
+use Rattle.tags.specs.Slots.{tagAt, lineAt}
+use Rattle.keys.specs.Pass.{runs}
+use Rattle.keys.proofs.Rows.{row-asks}
+use Rattle.keys.proofs.Turn.{entry-any}
+use Rattle.judge.specs.Examining.{runOf, examinedIn, examinedOf}
+use Rattle.judge.specs.declared.Examined.{Examined}
+use Rattle.rows.proofs.Seen.{Stands, accepted, found, size, fifteen, seventeen, stands}
+
+-- the key directory's part of the file, and where the three runs start, by what was examined
+abbrev pub partOf : List ℕ → Examined → List ℕ
+partOf f e = run f (e .directory .start) (e .directory .len)
+
+abbrev pub startsBy : Examined → Starts
+startsBy e = record { directory = e .directory .start; doubles = e .doubles .start; characters = e .characters .start }
+
+-- what is asked for row i, and what it is
+pub record Asked (f : List ℕ) (e : Examined) (i : ℕ) : Type 0 where
+  pub within : e .directory .start + e .directory .len ≤ length f
+  pub few : i < 256
+  pub here : 8 * i + 16 ≤ length (partOf f e)
+  pub low : rowOf (startsBy e) i (keyAt (runs (e .big) (partOf f e) [] []) i) .first < 4294967296
+  pub row : rowOf (startsBy e) i (keyAt (runs (e .big) (partOf f e) [] []) i) ≡ rowAt (view f) i
+
+module _ (f : List ℕ) (zero : verdictOf f .number ≡ 0) where
+  -- the run of the value of a tag
+  abbrev Part : ℕ → List ℕ
+  Part t = run f (find t (view f .held) .entry .start) (find t (view f .held) .entry .len)
+
+  directory : Stands f (view f .held) Tag.keyDirectory
+  unfolding tagAt lineAt table
+  directory = stands f zero 13 (lit< tt)
+
+  doubles : Stands f (view f .held) Tag.doubles
+  unfolding tagAt lineAt table
+  doubles = stands f zero 14 (lit< tt)
+
+  characters : Stands f (view f .held) Tag.characters
+  unfolding tagAt lineAt table
+  characters = stands f zero 15 (lit< tt)
+
+  runs-are : runs (view f .head .big) (Part Tag.keyDirectory) (Part Tag.doubles) (Part Tag.characters) ≡ runsOf (view f)
+  unfolding runsOf
+  runs-are =
+      λ i. record { big = view f .head .big; directory = directory .bytes i; doubles = doubles .bytes i; characters = characters .bytes i }
+
+  low-end : (t : ℕ) → Stands f (view f .held) t → find t (view f .held) .entry .start + length (Part t) < 4294967296
+  low-end t s =
+      let l = run-length-in f (find t (view f .held) .entry .start) (find t (view f .held) .entry .len) (s .within) in
+      omega (arith, size f zero, s .within, l)
+
+  in-view : (i : ℕ) → i < keyCount (runsOf (view f)) → Asked f (examinedIn (view f)) i
+  unfolding examinedIn runOf startsOf rowAt
+  in-view i h =
+      let a =
+      row-asks (view f .head .big) (Part Tag.keyDirectory) (Part Tag.doubles) (Part Tag.characters) (startsOf (view f)) i
+      (low-end Tag.keyDirectory directory) (low-end Tag.doubles doubles) (low-end Tag.characters characters)
+      (subst (λ (r : Runs). rule15 r ≡ kept) (sym runs-are) (fifteen f zero))
+      (subst (λ (r : Runs). rule17 r (keys r) ≡ kept) (sym runs-are) (seventeen f zero))
+      (subst (λ (r : Runs). i < keyCount r) (sym runs-are) h) in
+      record {
+        within = directory .within;
+        few = a .0;
+        here = a .1;
+        low = a .2;
+        row = ap (rowOf (startsOf (view f)) i) (entry-any _ (Part Tag.keyDirectory) (Part Tag.doubles) (Part Tag.characters) i ∙ ap (λ (r : Runs). keyAt r i) runs-are);
+      }
+
+-- all of it holds for row i of a file that was examined and accepted
+pub asked : (f : List ℕ) (e : Examined) (i : ℕ) → (e ≡ examinedOf f) × (e .judged .verdict .number ≡ 0) × (i < e .judged .keys) → Asked f e i
+unfolding examinedIn judgedIn
+asked f e i p =
+    let z = accepted f e (p .0) (p .1) in
+    let s = found f e (p .0) (p .1) in
+    let h : i < keyCount (runsOf (view f)) = subst (λ (x : Examined). i < x .judged .keys) s (p .2) in
+    subst (λ (x : Examined). Asked f x i) (sym s) (in-view f z i h)
+
+-- a row that was made of the key directory's part is the paper's
+pub made : (f : List ℕ) (e : Examined) (i : ℕ) → (e ≡ examinedOf f) × (e .judged .verdict .number ≡ 0) × (i < e .judged .keys)
+    → (d : List ℕ) → d ≡ partOf f e → (r : Row) → r ≡ rowOf (startsBy e) i (keyAt (runs (e .big) d [] []) i) → r ≡ rowAt (view f) i
+made f e i p d so r is =
+    is ∙ ap (λ (s : List ℕ). rowOf (startsBy e) i (keyAt (runs (e .big) s [] []) i)) so ∙ asked f e i p .row
