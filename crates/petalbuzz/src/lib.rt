@@ -12,9 +12,9 @@ pub extern "C" fn petalbuzz_judge(file: &[u8], verdict: &mut u32, place: &mut u3
     ensures verdict { λ _. ⌜ now (verdict .exit) ≡ verdictOf (now (file .entry)) .number ⌝ }
     ensures place { λ _. ⌜ now (place .exit) ≡ verdictOf (now (file .entry)) .place ⌝ }
 {
-    let j = judge::judge(file);
-    *verdict = j.verdict.number;
-    *place = j.verdict.place;
+    let answer = judge::judge(file);
+    *verdict = answer.verdict.number;
+    *place = answer.verdict.place;
 }
 
 // The form of a georeference: 0 scaled, 1 affine.
