@@ -1,21 +1,23 @@
 -- The places of the table's tags: a store at a tag's slot, and what a place says of the entry that is found. Assumes nothing.
-use Prim.Native.Nat.{ℕ, zero, suc, _+_, _-_, _≤_, _<_, zero-le}
+use Prim.Native.Nat.{ℕ, zero, suc, _+_, _-_, _%_, _≤_, _<_, zero-le}
 use mathlib.Core.Path.{_≡_, refl, sym, ap, _∙_, subst}
-use mathlib.Core.Bool.{Bool, true, false, cond, not, _&&_}
+use mathlib.Core.Bool.{Bool, true, false, cond, not, _&&_, _||_, false≢true}
+use mathlib.Core.Logic.{_⊎_, inl, inr, ⊎-elim}
 use mathlib.Core.List.{List, [], _∷_, map}
-use native.Mathlib.Nat.{not-suc-le-zero, le-of-suc-le-suc}
+use native.Mathlib.Nat.{not-suc-le-zero, le-of-suc-le-suc, lt-irrefl}
 use native.Mathlib.Omega.{arith}
 use native.Mathlib.Numerals.{add-one}
-use lib.Dec.{eqb}
+use lib.Dec.{eqb, leb, ltb}
 use lib.ListN.{length, getD, set}
-use borrow.Author.Tests.{eqb-true, ne-eqb, not-true}
+use borrow.Author.Tests.{eqb-true, ne-eqb, not-true, lt-leb, le-ltb}
 use Rattle.paper.specs.Bytes.{build}
 use Rattle.paper.specs.Layout.{entryAt, entries}
 use Rattle.paper.specs.Tags.{absent, table}
 use Rattle.paper.specs.declared.Entry.{Entry}
+use Rattle.paper.specs.Tests.{all}
 use Rattle.paper.proofs.Laws.{and-eq}
 use Rattle.paper.specs.Tags.{findEntry}
-use Rattle.layout.specs.Finding.{indexOf, placeFrom, placeIn, places, foundOf}
+use Rattle.layout.specs.Finding.{indexOf, highSlots, highTag, placeFrom, placeIn, places, foundOf}
 use Rattle.layout.specs.Columns.{tags}
 
 -- ---- a store in a table
@@ -119,11 +121,52 @@ found-place t big at c dir = go (placeIn t (build (entryAt big at dir) 0 c)) ref
           tag = λ l. ap (λ (x : Entry). x .tag) (r .entry) ∙ r .tag;
         }
 
--- of tag k of the table, in the places ps that a scan gave
-pub found-slot : {ps : List ℕ} {big : Bool} {at c : ℕ} {dir : List ℕ} (k : ℕ) → k < 17 → ps ≡ places (entries big at c dir)
-    → Found (getD tags k 0) big at c dir (getD ps k 0)
-unfolding places tags table
-found-slot {ps} {big} {at} {c} {dir} k h is =
-    subst (Found (getD tags k 0) big at c dir)
-    (sym (ap (λ (l : List ℕ). getD l k 0) is ∙ getD-map (λ (t : ℕ). placeIn t (entries big at c dir)) tags k h))
-    (found-place (getD tags k 0) big at c dir)
+-- ---- the slot of a tag
+
+-- a test that passes at each member of a table fails only at what is none
+none-passes : (ok : ℕ → Bool) (ts : List ℕ) (x : ℕ) → all ok ts ≡ true → ok x ≡ false → indexOf x ts ≡ length ts
+unfolding all indexOf
+none-passes ok [] x h n = refl
+none-passes ok (t ∷ ts) x h n = go (eqb x t) refl (none-passes ok ts x (and-eq (ok t) _ h .1) n)
+  where
+    go : (b : Bool) → eqb x t ≡ b → indexOf x ts ≡ length ts → indexOf x (t ∷ ts) ≡ length (t ∷ ts)
+    go true e r = absurd (false≢true (sym n ∙ ap ok (eqb-true x t e) ∙ and-eq (ok t) _ h .0))
+    go false e r = rw e (ap suc r)
+
+pub slot-below : (t : ℕ) → t < 256 → 17 ≡ indexOf t tags
+unfolding tags table all
+slot-below t h = sym (none-passes (λ (x : ℕ). leb 256 x) tags t refl (lt-leb 256 t h))
+
+-- a tag above 284 stands where its last four bits say
+stands : ℕ → Bool
+stands t = ltb t 285 || eqb (highTag (getD highSlots (t % 16) 17)) t
+
+all-stand : all stands tags ≡ true
+unfolding all stands highSlots highTag tags table
+all-stand = refl
+
+pub slot-none : (t k : ℕ) → 285 ≤ t → k ≡ getD highSlots (t % 16) 17 → (highTag k ≡ t → ⊥) → 17 ≡ indexOf t tags
+unfolding stands tags table
+slot-none t k l e n =
+    let b : eqb (highTag (getD highSlots (t % 16) 17)) t ≡ false = ap (λ (j : ℕ). eqb (highTag j) t) (sym e) ∙ ne-eqb (highTag k) t n in
+    sym (none-passes stands tags t all-stand (rw (le-ltb t 285 l) b))
+
+-- each index is its tag's
+own : (k : ℕ) → (highTag k ≡ 65536) ⊎ (indexOf (highTag k) tags ≡ k)
+unfolding highTag indexOf tags table
+own k = go (eqb k 10) (eqb k 11) (eqb k 12) (eqb k 13) (eqb k 14) (eqb k 15) (eqb k 16) refl refl refl refl refl refl refl
+  where
+    go : (a b c d e f g : Bool) → eqb k 10 ≡ a → eqb k 11 ≡ b → eqb k 12 ≡ c → eqb k 13 ≡ d → eqb k 14 ≡ e → eqb k 15 ≡ f → eqb k 16 ≡ g
+        → (highTag k ≡ 65536) ⊎ (indexOf (highTag k) tags ≡ k)
+    go true b c d e f g p q r s t u v = let z : k ≡ 10 = eqb-true k 10 p in rw z (inr refl)
+    go false true c d e f g p q r s t u v = let z : k ≡ 11 = eqb-true k 11 q in rw z (inr refl)
+    go false false true d e f g p q r s t u v = let z : k ≡ 12 = eqb-true k 12 r in rw z (inr refl)
+    go false false false true e f g p q r s t u v = let z : k ≡ 13 = eqb-true k 13 s in rw z (inr refl)
+    go false false false false true f g p q r s t u v = let z : k ≡ 14 = eqb-true k 14 t in rw z (inr refl)
+    go false false false false false true g p q r s t u v = let z : k ≡ 15 = eqb-true k 15 u in rw z (inr refl)
+    go false false false false false false true p q r s t u v = let z : k ≡ 16 = eqb-true k 16 v in rw z (inr refl)
+    go false false false false false false false p q r s t u v = inl (rw (p, q, r, s, t, u, v))
+
+pub slot-found : (t k : ℕ) → t < 65536 → highTag k ≡ t → k ≡ indexOf t tags
+slot-found t k l h =
+    ⊎-elim (λ z. absurd (lt-irrefl t (subst (λ (n : ℕ). t < n) (sym z ∙ h) l))) (λ z. sym z ∙ ap (λ (x : ℕ). indexOf x tags) h) (own k)

@@ -19,6 +19,18 @@ unfoldable pub indexOf : ℕ → List ℕ → ℕ
 indexOf x [] = 0
 indexOf x (y ∷ ys) = cond (eqb x y) 0 (suc (indexOf x ys))
 
+-- the tags of the table above 284 differ in their last four bits: the index of the one with each
+unfoldable pub highSlots : List ℕ
+highSlots = 14 ∷ 15 ∷ 11 ∷ 17 ∷ 17 ∷ 17 ∷ 17 ∷ 17 ∷ 12 ∷ 17 ∷ 17 ∷ 17 ∷ 17 ∷ 16 ∷ 10 ∷ 13 ∷ []
+
+-- and the tag of each index from 10 on
+unfoldable pub highTag : ℕ → ℕ
+highTag k =
+    cond (eqb k 10) 33550
+    (cond (eqb k 11) 33922
+    (cond (eqb k 12) 34264
+    (cond (eqb k 13) 34735 (cond (eqb k 14) 34736 (cond (eqb k 15) 34737 (cond (eqb k 16) 50909 65536))))))
+
 -- one more than the index of the first entry with tag t, where the first of the list has index i; 0 where there is none
 unfoldable pub placeFrom : ℕ → ℕ → List Entry → ℕ
 placeFrom t i [] = 0

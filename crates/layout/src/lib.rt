@@ -3,14 +3,14 @@ ghost use mathlib.Core.Path.{_≡_};
 ghost use mathlib.Core.Bool.{cond, not, _||_};
 ghost use Prim.Native.Nat.{_+_, _*_, _≤_, _<_};
 ghost use lib.Dec.{eqb, ltb};
-ghost use lib.ListN.{length};
+ghost use lib.ListN.{length, getD};
 ghost use Rattle.paper.specs.Bytes.{run};
 ghost use Rattle.paper.specs.Outcome.{breaks, verdict, orElse, first};
 ghost use Rattle.paper.specs.declared.Outcome.the-variants.{Kept as kept};
 ghost use Rattle.paper.specs.Layout.{odd, isBig, dirLen, rule1, rule2, sizeOf, entryOf, entries, badValue};
 ghost use Rattle.paper.specs.Judge.{dirRules};
 ghost use Rattle.layout.specs.Opening.{headedOf, countedOf, openedOf};
-ghost use Rattle.layout.specs.Finding.{told, indexOf};
+ghost use Rattle.layout.specs.Finding.{told, indexOf, highSlots, highTag};
 ghost use Rattle.layout.specs.Columns.{tags, typsOf, countsOf, startsOf, lensOf};
 ghost use mathlib.Core.List.{[]};
 use paper::Entry;
@@ -199,8 +199,9 @@ fn step7(seven: usize, bad: bool, tag: usize) -> usize
     seven
 }
 
-// The index of a tag in the table, 17 where it is not there.
-fn slot_of(tag: usize) -> usize
+// The index of a tag from 256 to 284, 17 where the table has it not. Each arm is written out, so that the program has a table of these and no jump.
+fn low_slot(tag: usize) -> usize
+    requires { ⌜ (256 ≤ tag) × (tag < 285) ⌝ }
     ensures { λ r. ⌜ r ≡ indexOf tag tags ⌝ }
 {
     match tag {
@@ -208,21 +209,93 @@ fn slot_of(tag: usize) -> usize
         257 => 1,
         258 => 2,
         259 => 3,
+        260 => 17,
+        261 => 17,
         262 => 4,
+        263 => 17,
+        264 => 17,
+        265 => 17,
+        266 => 17,
+        267 => 17,
+        268 => 17,
+        269 => 17,
+        270 => 17,
+        271 => 17,
+        272 => 17,
         273 => 5,
+        274 => 17,
+        275 => 17,
+        276 => 17,
         277 => 6,
         278 => 7,
         279 => 8,
+        280 => 17,
+        281 => 17,
+        282 => 17,
+        283 => 17,
         284 => 9,
-        33550 => 10,
-        33922 => 11,
-        34264 => 12,
-        34735 => 13,
-        34736 => 14,
-        34737 => 15,
-        50909 => 16,
-        _ => 17,
+        _ => 18,
     }
+}
+
+// The index of the one tag above 284 with these last four bits, 17 where the table has none.
+fn high_slot(bits: usize) -> usize
+    requires { ⌜ bits < 16 ⌝ }
+    ensures { λ r. ⌜ r ≡ getD highSlots bits 17 ⌝ }
+{
+    match bits {
+        0 => 14,
+        1 => 15,
+        2 => 11,
+        3 => 17,
+        4 => 17,
+        5 => 17,
+        6 => 17,
+        7 => 17,
+        8 => 12,
+        9 => 17,
+        10 => 17,
+        11 => 17,
+        12 => 17,
+        13 => 16,
+        14 => 10,
+        15 => 13,
+        _ => 18,
+    }
+}
+
+// The tag above 284 with an index.
+fn high_tag(k: usize) -> usize
+    ensures { λ r. ⌜ r ≡ highTag k ⌝ }
+{
+    match k {
+        10 => 33550,
+        11 => 33922,
+        12 => 34264,
+        13 => 34735,
+        14 => 34736,
+        15 => 34737,
+        16 => 50909,
+        _ => 65536,
+    }
+}
+
+// The index of a tag in the table, 17 where it is not there.
+fn slot_of(tag: usize) -> usize
+    requires { ⌜ tag < 65536 ⌝ }
+    ensures { λ r. ⌜ r ≡ indexOf tag tags ⌝ }
+{
+    if tag < 256 {
+        return 17;
+    }
+    if tag < 285 {
+        return low_slot(tag);
+    }
+    let k = high_slot(tag % 16);
+    if high_tag(k) == tag {
+        return k;
+    }
+    17
 }
 
 // The verdict of rules 6 to 8 from the places of rules 6 and 7, 65536 where they are kept, and the next offset.

@@ -7,7 +7,7 @@ use native.Mathlib.Omega.{arith}
 use native.Mathlib.Nat.{sub-zero, mul-suc, mul-le-mul-left}
 use lib.Dec.{ltb, leb, eqb}
 use lib.ListN.{getD}
-use borrow.Author.Tests.{le-leb, lt-leb, eq-eqb, ne-eqb, eqb-false, ltb-false, le-ltb}
+use borrow.Author.Tests.{le-leb, lt-leb, eq-eqb, ne-eqb, eqb-false, ltb-false, le-ltb, lt-ltb}
 use Rattle.paper.specs.Bytes.{num, build}
 use Rattle.paper.specs.Outcome.{firstBad, orElse, first, verdict}
 use Rattle.paper.specs.declared.Outcome.the-variants.{Kept as kept, Broken as broken}
@@ -15,7 +15,7 @@ use Rattle.paper.specs.Tests.{all, some}
 use Rattle.paper.specs.Strips.{Part, part, Strip, shares, placeAt, placesOf, badStrip, touches, rule13, rule14}
 use Rattle.paper.proofs.Laws.{build-step, or-false, or-both}
 use Rattle.paper.proofs.Loops.{build-end}
-use Rattle.strips.specs.Gaps.{whole, rangeAt, rangesOf, narrowed, gapOf, clear, fromPlace, placesJudged}
+use Rattle.strips.specs.Gaps.{whole, rangeAt, rangesOf, narrowed, exactOf, topOf, gapOf, clear, fromPlace, placesJudged}
 use Rattle.strips.proofs.Gaps.{clear-free}
 use Rattle.strips.specs.declared.Gap.{Gap}
 use Rattle.paper.specs.declared.Verdict.{Verdict}
@@ -23,47 +23,80 @@ use Rattle.paper.specs.declared.Verdict.{Verdict}
 -- ---- narrow
 
 module _ (g : Gap) (s e from len : ℕ) where
-  pub narrow-before : (lo : ℕ) → from + len ≤ s → lo ≡ max (g .lo) (from + len)
+  pub narrow-behind : (hi : ℕ) → e ≤ from → hi ≡ min (g .hi) from → record { lo = g .lo; hi = hi; touch = g .touch } ≡ narrowed g s e from len
+  unfolding narrowed
+  narrow-behind hi b q = rw (le-leb e from b, q)
+
+  pub narrow-before : (lo : ℕ) → from < e → from + len ≤ s → lo ≡ max (g .lo) (from + len)
       → record { lo = lo; hi = g .hi; touch = g .touch } ≡ narrowed g s e from len
   unfolding narrowed
-  narrow-before lo a q = rw (le-leb (from + len) s a, q)
-
-  pub narrow-behind : (hi : ℕ) → s < from + len → e ≤ from → hi ≡ min (g .hi) from
-      → record { lo = g .lo; hi = hi; touch = g .touch } ≡ narrowed g s e from len
-  unfolding narrowed
-  narrow-behind hi a b q = rw (lt-leb (from + len) s a, le-leb e from b, q)
+  narrow-before lo b a q = rw (lt-leb e from b, le-leb (from + len) s a, q)
 
   pub narrow-empty : s < from + len → from < e → len ≡ 0 → g ≡ narrowed g s e from len
   unfolding narrowed
-  narrow-empty a b z = rw (lt-leb (from + len) s a, lt-leb e from b, eq-eqb len 0 z)
+  narrow-empty a b z = rw (lt-leb e from b, lt-leb (from + len) s a, eq-eqb len 0 z)
 
   pub narrow-touch : s < from + len → from < e → (len ≡ 0 → ⊥) → record { lo = g .lo; hi = g .hi; touch = true } ≡ narrowed g s e from len
   unfolding narrowed
-  narrow-touch a b z = rw (lt-leb (from + len) s a, lt-leb e from b, ne-eqb len 0 z)
+  narrow-touch a b z = rw (lt-leb e from b, lt-leb (from + len) s a, ne-eqb len 0 z)
 
--- ---- gap_of: the gap among the ranges from j on
+-- ---- exact_gap: the gap among the ranges from j on
 
-abbrev pub gapFrom : List ℕ → List ℕ → ℕ → ℕ → ℕ → ℕ → Gap
-gapFrom starts lens m s e j = gapOf s e (build (rangeAt starts lens) j (m - j))
+abbrev pub exactFrom : List ℕ → List ℕ → ℕ → ℕ → ℕ → ℕ → Gap
+exactFrom starts lens m s e j = exactOf s e (build (rangeAt starts lens) j (m - j))
 
-pub gap-start : (starts lens : List ℕ) (m s e : ℕ) → whole ≡ gapFrom starts lens m s e m
-unfolding gapOf
-gap-start starts lens m s e = sym (ap (gapOf s e) (build-end (rangeAt starts lens) m))
+pub exact-start : (starts lens : List ℕ) (m s e : ℕ) → whole ≡ exactFrom starts lens m s e m
+unfolding exactOf
+exact-start starts lens m s e = sym (ap (exactOf s e) (build-end (rangeAt starts lens) m))
 
-pub gap-turn : (starts lens : List ℕ) (m s e j : ℕ) (g : Gap) → 0 < j → j ≤ m → g ≡ gapFrom starts lens m s e j
-    → narrowed g s e (getD starts (j - 1) 0) (getD lens (j - 1) 0) ≡ gapFrom starts lens m s e (j - 1)
-unfolding gapOf rangeAt
-gap-turn starts lens m s e j g p q h =
+pub exact-turn : (starts lens : List ℕ) (m s e j : ℕ) (g : Gap) → 0 < j → j ≤ m → g ≡ exactFrom starts lens m s e j
+    → narrowed g s e (getD starts (j - 1) 0) (getD lens (j - 1) 0) ≡ exactFrom starts lens m s e (j - 1)
+unfolding exactOf rangeAt
+exact-turn starts lens m s e j g p q h =
     let k : j - 1 + 1 ≡ j = omega arith in
     let b : build (rangeAt starts lens) (j - 1) (m - (j - 1)) ≡ rangeAt starts lens (j - 1) ∷ build (rangeAt starts lens) j (m - j) =
     build-step (rangeAt starts lens) (j - 1) m (omega arith) ∙ ap (λ (i : ℕ). rangeAt starts lens (j - 1) ∷ build (rangeAt starts lens) i (m - i)) k in
-    sym (ap (gapOf s e) b ∙ ap (λ (x : Gap). narrowed x s e (getD starts (j - 1) 0) (getD lens (j - 1) 0)) (sym h))
+    sym (ap (exactOf s e) b ∙ ap (λ (x : Gap). narrowed x s e (getD starts (j - 1) 0) (getD lens (j - 1) 0)) (sym h))
 
-pub gap-end : (starts lens : List ℕ) (m s e j : ℕ) (g : Gap) → j ≤ 0 → g ≡ gapFrom starts lens m s e j → g ≡ gapOf s e (rangesOf starts lens m)
+pub exact-end : (starts lens : List ℕ) (m s e j : ℕ) (g : Gap) → j ≤ 0 → g ≡ exactFrom starts lens m s e j → g ≡ exactOf s e (rangesOf starts lens m)
 unfolding rangesOf
-gap-end starts lens m s e j g z h =
+exact-end starts lens m s e j g z h =
     let a : j ≡ 0 = omega arith in
-    h ∙ ap (λ (i : ℕ). gapOf s e (build (rangeAt starts lens) i (m - i))) a ∙ ap (λ (i : ℕ). gapOf s e (build (rangeAt starts lens) 0 i)) (sub-zero m)
+    h ∙ ap (λ (i : ℕ). exactOf s e (build (rangeAt starts lens) i (m - i))) a ∙ ap (λ (i : ℕ). exactOf s e (build (rangeAt starts lens) 0 i)) (sub-zero m)
+
+-- ---- top_of: the greatest end among the ranges from j on
+
+abbrev pub topFrom : List ℕ → List ℕ → ℕ → ℕ → ℕ
+topFrom starts lens m j = topOf (build (rangeAt starts lens) j (m - j))
+
+pub top-start : (starts lens : List ℕ) (m : ℕ) → 0 ≡ topFrom starts lens m m
+unfolding topOf
+top-start starts lens m = sym (ap topOf (build-end (rangeAt starts lens) m))
+
+pub top-turn : (starts lens : List ℕ) (m j top : ℕ) → 0 < j → j ≤ m → top ≡ topFrom starts lens m j
+    → max top (getD starts (j - 1) 0 + getD lens (j - 1) 0) ≡ topFrom starts lens m (j - 1)
+unfolding topOf rangeAt
+top-turn starts lens m j top p q h =
+    let k : j - 1 + 1 ≡ j = omega arith in
+    let b : build (rangeAt starts lens) (j - 1) (m - (j - 1)) ≡ rangeAt starts lens (j - 1) ∷ build (rangeAt starts lens) j (m - j) =
+    build-step (rangeAt starts lens) (j - 1) m (omega arith) ∙ ap (λ (i : ℕ). rangeAt starts lens (j - 1) ∷ build (rangeAt starts lens) i (m - i)) k in
+    sym (ap topOf b ∙ ap (λ (x : ℕ). max x (getD starts (j - 1) 0 + getD lens (j - 1) 0)) (sym h))
+
+pub top-end : (starts lens : List ℕ) (m j top : ℕ) → j ≤ 0 → top ≡ topFrom starts lens m j → top ≡ topOf (rangesOf starts lens m)
+unfolding rangesOf
+top-end starts lens m j top z h =
+    let a : j ≡ 0 = omega arith in
+    h ∙ ap (λ (i : ℕ). topOf (build (rangeAt starts lens) i (m - i))) a ∙ ap (λ (i : ℕ). topOf (build (rangeAt starts lens) 0 i)) (sub-zero m)
+
+-- ---- gap_of
+
+pub gap-exact : (s e : ℕ) (ps : List Part) (b : ℕ) (g : Gap) → b ≡ topOf ps → s < b → g ≡ exactOf s e ps → g ≡ gapOf s e ps
+unfolding gapOf
+gap-exact s e ps b g h l r = rw (← h, lt-ltb s b l) r
+
+pub gap-behind : (s e : ℕ) (ps : List Part) (b : ℕ) → b ≡ topOf ps → b ≤ s → record { lo = b; hi = 4294967295; touch = false } ≡ gapOf s e ps
+unfolding gapOf
+gap-behind s e ps b h l = rw (← h, le-ltb s b l)
 
 -- ---- places: one turn over place i
 
@@ -122,7 +155,7 @@ module _ (big : Bool) (a : ℕ) (offsets : List ℕ) (b : ℕ) (counts : List �
       pos zero z = absurd (z refl)
       pos (suc x) z = suc-le-suc zero-le
 
--- ---- a place that a search passes by
+  -- ---- a place that a search passes by
 
   -- as code tests it: before the gap, without bytes, or past it
   abbrev pub Stops : ℕ → ℕ → ℕ → Bool

@@ -12,7 +12,7 @@ use borrow.Author.Tests.{eqb-true, eqb-false, leb-true, leb-false, ltb-true, ltb
 use Rattle.paper.specs.Tests.{all, some}
 use Rattle.paper.specs.Strips.{Part, part, shares}
 use Rattle.paper.proofs.Laws.{and-eq, and-both, or-false}
-use Rattle.strips.specs.Gaps.{whole, narrowed, gapOf, clear}
+use Rattle.strips.specs.Gaps.{whole, narrowed, exactOf, topOf, gapOf, clear}
 use Rattle.strips.specs.declared.Gap.{Gap}
 
 abbrev pub Clear : Gap → List Part → Type 0
@@ -100,57 +100,87 @@ module _ (s l : ℕ) (some-bytes : 0 < l) where
   step g p = at (eqb (p .len) 0) (leb (p .start + p .len) s) (leb (s + l) (p .start)) refl refl refl
     where
       at : (a b c : Bool) → eqb (p .len) 0 ≡ a → leb (p .start + p .len) s ≡ b → leb (s + l) (p .start) ≡ c → Step g (narrowed g s (s + l) (p .start) (p .len)) p
-      at a true c x y z =
-          let e : p .start + p .len ≤ s = leb-true _ _ y in
-          let n : shares (part s l) p ≡ false = shares-no s l p (omega arith) in
-          rw y
-          (record {
-            touches = sym (ap (λ (b : Bool). b || g .touch) n);
-            here = λ t. clear-before (max (g .lo) (p .start + p .len)) (g .hi) p (omega arith);
-            low = omega arith;
-            high = omega arith;
-          })
-      at a false true x y z =
+      at a b true x y z =
           let e : s + l ≤ p .start = leb-true _ _ z in
           let n : shares (part s l) p ≡ false = shares-no s l p (omega arith) in
-          rw (y, z)
+          rw z
           (record {
             touches = sym (ap (λ (b : Bool). b || g .touch) n);
             here = λ t. clear-behind (g .lo) (min (g .hi) (p .start)) p (omega arith);
             low = omega arith;
             high = omega arith;
           })
+      at a true false x y z =
+          let e : p .start + p .len ≤ s = leb-true _ _ y in
+          let n : shares (part s l) p ≡ false = shares-no s l p (omega arith) in
+          rw (z, y)
+          (record {
+            touches = sym (ap (λ (b : Bool). b || g .touch) n);
+            here = λ t. clear-before (max (g .lo) (p .start + p .len)) (g .hi) p (omega arith);
+            low = omega arith;
+            high = omega arith;
+          })
       at true false false x y z =
           let e : p .len ≡ 0 = eqb-true _ _ x in
           let n : shares (part s l) p ≡ false = shares-no s l p (omega arith) in
-          rw (y, z, x)
+          rw (z, y, x)
           (record { touches = sym (ap (λ (b : Bool). b || g .touch) n); here = λ t. clear-empty (g .lo) (g .hi) p e; low = omega arith; high = omega arith })
       at false false false x y z =
           let w : p .len ≡ 0 → ⊥ = eqb-false _ _ x in
           let u : s < p .start + p .len = leb-false _ _ y in
           let v : p .start < s + l = leb-false _ _ z in
           let n : shares (part s l) p ≡ true = shares-yes s l p (lemma (p .start) (p .len) w u v) in
-          rw (y, z, x)
+          rw (z, y, x)
           (record { touches = sym (ap (λ (b : Bool). b || g .touch) n); here = λ t. absurd (true≢false t); low = omega arith; high = omega arith })
         where
           lemma : (a k : ℕ) → (k ≡ 0 → ⊥) → s < a + k → a < s + l → max s a < min (s + l) (a + k)
           lemma a zero w u v = absurd (w refl)
           lemma a (suc k) w u v = omega arith
 
-  pub gap-touch : (ps : List Part) → gapOf s (s + l) ps .touch ≡ some (shares (part s l)) ps
-  unfolding gapOf some
-  gap-touch [] = refl
-  gap-touch (p ∷ ps) =
-      step (gapOf s (s + l) ps) p .touches ∙ ap (λ (b : Bool). shares (part s l) p || b) (gap-touch ps)
+  exact-touch : (ps : List Part) → exactOf s (s + l) ps .touch ≡ some (shares (part s l)) ps
+  unfolding exactOf some
+  exact-touch [] = refl
+  exact-touch (p ∷ ps) =
+      step (exactOf s (s + l) ps) p .touches ∙ ap (λ (b : Bool). shares (part s l) p || b) (exact-touch ps)
 
   -- an untouched list is clear of the gap
+  exact-clear : (ps : List Part) → exactOf s (s + l) ps .touch ≡ false → Clear (exactOf s (s + l) ps) ps
+  unfolding exactOf all
+  exact-clear [] t = refl
+  exact-clear (p ∷ ps) t =
+      let x = step (exactOf s (s + l) ps) p in
+      let y : exactOf s (s + l) ps .touch ≡ false = or-false (shares (part s l) p) _ (sym (x .touches) ∙ t) .1 in
+      and-both _ _ (x .here t) (all-less _ _ _ _ ps (x .low) (x .high) (exact-clear ps y))
+
+  -- behind the greatest end
+  top-free : (top : ℕ) (ps : List Part) → topOf ps ≤ top → top ≤ s → some (shares (part s l)) ps ≡ false
+  unfolding topOf some
+  top-free top [] h i = refl
+  top-free top (p ∷ ps) h i = rw (shares-no s l p (omega arith)) (top-free top ps (omega arith) i)
+
+  top-clear : (top hi : ℕ) (ps : List Part) → topOf ps ≤ top → all (clear top hi) ps ≡ true
+  unfolding topOf all
+  top-clear top hi [] h = refl
+  top-clear top hi (p ∷ ps) h = and-both (clear top hi p) _ (clear-before top hi p (omega arith)) (top-clear top hi ps (omega arith))
+
+  -- either way
+  pub gap-touch : (ps : List Part) → gapOf s (s + l) ps .touch ≡ some (shares (part s l)) ps
+  unfolding gapOf
+  gap-touch ps = at (ltb s (topOf ps)) refl
+    where
+      at : (a : Bool) → ltb s (topOf ps) ≡ a → gapOf s (s + l) ps .touch ≡ some (shares (part s l)) ps
+      at true x = rw x (exact-touch ps)
+      at false x =
+          let y : topOf ps ≤ s = ltb-false _ _ x in
+          rw x (sym (top-free (topOf ps) ps (omega arith) y))
+
   pub gap-clear : (ps : List Part) → gapOf s (s + l) ps .touch ≡ false → Clear (gapOf s (s + l) ps) ps
-  unfolding gapOf all
-  gap-clear [] t = refl
-  gap-clear (p ∷ ps) t =
-      let x = step (gapOf s (s + l) ps) p in
-      let y : gapOf s (s + l) ps .touch ≡ false = or-false (shares (part s l) p) _ (sym (x .touches) ∙ t) .1 in
-      and-both _ _ (x .here t) (all-less _ _ _ _ ps (x .low) (x .high) (gap-clear ps y))
+  unfolding gapOf
+  gap-clear ps = at (ltb s (topOf ps)) refl
+    where
+      at : (a : Bool) → ltb s (topOf ps) ≡ a → gapOf s (s + l) ps .touch ≡ false → Clear (gapOf s (s + l) ps) ps
+      at true x = rw x (exact-clear ps)
+      at false x = rw x (λ t. top-clear (topOf ps) 4294967295 ps (omega arith))
 
 -- a narrower gap is clear too
 pub clear-within : (g : Gap) (n : ℕ) (ps : List Part) → Clear g ps → all (clear (max (g .lo) 8) (min (g .hi) n)) ps ≡ true

@@ -33,17 +33,26 @@ fromPlace big a offsets b counts i k = build (placeAt big a offsets b counts) i 
 abbrev pub whole : Gap
 whole = record { lo = 0; hi = 4294967295; touch = false }
 
--- the gap around a place, with one range more on the list: a range before it raises the low end, one behind it lowers the high end, any other with bytes touches
+-- the gap around a place, with one range more on the list: a range behind it lowers the high end, one before it raises the low end, any other with bytes touches
 unfoldable pub narrowed : Gap → ℕ → ℕ → ℕ → ℕ → Gap
 narrowed g start end from len =
-    cond (leb (from + len) start) (record { lo = max (g .lo) (from + len); hi = g .hi; touch = g .touch })
-    (cond (leb end from) (record { lo = g .lo; hi = min (g .hi) from; touch = g .touch })
+    cond (leb end from) (record { lo = g .lo; hi = min (g .hi) from; touch = g .touch })
+    (cond (leb (from + len) start) (record { lo = max (g .lo) (from + len); hi = g .hi; touch = g .touch })
     (cond (eqb len 0) g (record { lo = g .lo; hi = g .hi; touch = true })))
 
 -- with a whole list
+unfoldable pub exactOf : ℕ → ℕ → List Part → Gap
+exactOf start end [] = whole
+exactOf start end (p ∷ ps) = narrowed (exactOf start end ps) start end (p .start) (p .len)
+
+-- the greatest end of a list's ranges
+unfoldable pub topOf : List Part → ℕ
+topOf [] = 0
+topOf (p ∷ ps) = max (topOf ps) (p .start + p .len)
+
+-- the gap around a place: the one behind the whole list, where the place starts there
 unfoldable pub gapOf : ℕ → ℕ → List Part → Gap
-gapOf start end [] = whole
-gapOf start end (p ∷ ps) = narrowed (gapOf start end ps) start end (p .start) (p .len)
+gapOf start end ps = cond (ltb start (topOf ps)) (exactOf start end ps) (record { lo = topOf ps; hi = 4294967295; touch = false })
 
 -- a range that has no byte from lo up to hi
 unfoldable pub clear : ℕ → ℕ → Part → Bool

@@ -8,7 +8,7 @@ ghost use lib.ListN.{length};
 ghost use Rattle.order.specs.Width.{width};
 ghost use Rattle.paper.specs.Outcome.{orElse, verdict};
 ghost use Rattle.paper.specs.Strips.{placesOf, rule13};
-ghost use Rattle.strips.specs.Gaps.{Low, fromPlace, rangesOf, narrowed, gapOf, Skipped, placesJudged};
+ghost use Rattle.strips.specs.Gaps.{Low, fromPlace, rangesOf, narrowed, exactOf, topOf, gapOf, Skipped, placesJudged};
 use paper::Verdict;
 
 // A gap of the reading list: no byte from lo up to hi is on it. `touch` says that the place which was looked for shares a byte with the list.
@@ -56,18 +56,18 @@ fn narrow(g: Gap, start: usize, end: usize, from: usize, len: usize) -> Gap
     requires { ⌜ (from < 68719476736) × (len < 68719476736) ⌝ }
     ensures { λ r. ⌜ r ≡ narrowed g start end from len ⌝ }
 {
+    if end <= from {
+        return Gap {
+            lo: g.lo,
+            hi: smaller(g.hi, from),
+            touch: g.touch,
+        };
+    }
     let to = from + len;
     if to <= start {
         return Gap {
             lo: larger(g.lo, to),
             hi: g.hi,
-            touch: g.touch,
-        };
-    }
-    if end <= from {
-        return Gap {
-            lo: g.lo,
-            hi: smaller(g.hi, from),
             touch: g.touch,
         };
     }
@@ -81,10 +81,10 @@ fn narrow(g: Gap, start: usize, end: usize, from: usize, len: usize) -> Gap
     }
 }
 
-// The gap around a place, among m ranges that each have a start and a length.
-fn gap_of(starts: &[usize], lens: &[usize], m: usize, start: usize, end: usize) -> Gap
+// The gap around a place, from start up to end, among m ranges that each have a start and a length.
+fn exact_gap(starts: &[usize], lens: &[usize], m: usize, start: usize, end: usize) -> Gap
     requires { ⌜ (m ≤ length (now starts)) × (m ≤ length (now lens)) × Low (now starts) × Low (now lens) ⌝ }
-    ensures { λ r. ⌜ r ≡ gapOf start end (rangesOf (now (starts .entry)) (now (lens .entry)) m) ⌝ }
+    ensures { λ r. ⌜ r ≡ exactOf start end (rangesOf (now (starts .entry)) (now (lens .entry)) m) ⌝ }
 {
     let mut g = Gap {
         lo: 0,
@@ -99,8 +99,38 @@ fn gap_of(starts: &[usize], lens: &[usize], m: usize, start: usize, end: usize) 
     g
 }
 
+// The greatest end of m ranges.
+fn top_of(starts: &[usize], lens: &[usize], m: usize) -> usize
+    requires { ⌜ (m ≤ length (now starts)) × (m ≤ length (now lens)) × Low (now starts) × Low (now lens) ⌝ }
+    ensures { λ r. ⌜ r ≡ topOf (rangesOf (now (starts .entry)) (now (lens .entry)) m) ⌝ }
+{
+    let mut top = 0;
+    let mut j = m;
+    while 0 < j {
+        j -= 1;
+        top = larger(top, starts[j] + lens[j]);
+    }
+    top
+}
+
+// The gap around a place: the one behind the whole list where the place lies there.
+fn gap_of(starts: &[usize], lens: &[usize], m: usize, start: usize, end: usize) -> Gap
+    requires { ⌜ (m ≤ length (now starts)) × (m ≤ length (now lens)) × Low (now starts) × Low (now lens) ⌝ }
+    ensures { λ r. ⌜ r ≡ gapOf start end (rangesOf (now (starts .entry)) (now (lens .entry)) m) ⌝ }
+{
+    let top = top_of(starts, lens, m);
+    if start < top {
+        return exact_gap(starts, lens, m, start, end);
+    }
+    Gap {
+        lo: top,
+        hi: 4294967295,
+        touch: false,
+    }
+}
+
 // The first place from `from` on that does not lie in the gap from lo up to hi, with its offset and byte count; k where all do.
-fn skip(
+fn skip_run(
     offsets: &[u8],
     wideoffsets: bool,
     counts: &[u8],
@@ -128,6 +158,39 @@ fn skip(
         start: 0,
         len: 0,
     }
+}
+
+// The same, with a loop of its own for the widths that most files have: two runs of LONGs.
+fn skip(
+    offsets: &[u8],
+    wideoffsets: bool,
+    counts: &[u8],
+    widecounts: bool,
+    big: bool,
+    from: usize,
+    k: usize,
+    lo: usize,
+    hi: usize,
+) -> Stop
+    requires { ⌜ (from ≤ k) × (k < 4294967296) × (width wideoffsets * k ≤ length (now offsets)) × (width widecounts * k ≤ length (now counts)) ⌝ }
+    ensures { λ r. ⌜ Skipped big (width wideoffsets) (now (offsets .entry)) (width widecounts) (now (counts .entry)) k lo hi from r ⌝ }
+{
+    if wideoffsets {
+        if widecounts {
+            return skip_run(offsets, true, counts, true, big, from, k, lo, hi);
+        }
+    }
+    skip_run(
+        offsets,
+        wideoffsets,
+        counts,
+        widecounts,
+        big,
+        from,
+        k,
+        lo,
+        hi,
+    )
 }
 
 // Rule 13 from a place on, where an earlier place breaks rule 14 at `clash`.

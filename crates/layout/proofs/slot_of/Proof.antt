@@ -1,104 +1,51 @@
--- `slot_of` gives each tag its index in the table, arm by arm, and 17 to any other tag. Assumes nothing.
-use Rattle.layout.specs.Finding.{indexOf}
-use Rattle.layout.specs.Columns.{tags}
-use Rattle.paper.specs.Tags.{table}
-use borrow.Author.Tests.{ne-eqb}
+-- `slot_of` answers the index of a tag: by the low table, or by its last four bits. Assumes nothing.
+use mathlib.Core.Path.{_≡_, sym, _∙_}
+use Rattle.layout.proofs.Finding.{slot-below, slot-found, slot-none}
+use borrow.Author.Needs.{needs}
 use Rattle.layout.proofs.slot_of.Statement.{statement}
 use Rattle.layout.proofs.slot_of.Tie as tie
 use Rattle.layout.proofs.slot_of.Reads as reads
 use Rattle.layout.proofs.slot_of.Lts as lts
+use Rattle.layout.proofs.high_slot.Reads as high-slot-reads
+use Rattle.layout.proofs.high_tag.Reads as high-tag-reads
+use Rattle.layout.proofs.low_slot.Reads as low-slot-reads
 
+-- src/lib.rt:289:9
 returns : tie.Need-returns
-unfolding indexOf tags table
-returns c = rw (c .match .keys1)
+returns c = slot-below (c .before .args .tag) (c .if1 .taken)
 
+-- src/lib.rt:292:9
+low-slot-requires : tie.Need-low-slot-requires
+low-slot-requires c κs = search needs
+
+-- src/lib.rt:292:9
 returns-2 : tie.Need-returns-2
-unfolding indexOf tags table
-returns-2 c = rw (c .match .keys2)
+returns-2 c = search needs
 
+-- src/lib.rt:294:9
+high-slot-requires : tie.Need-high-slot-requires
+high-slot-requires c κs = search needs
+
+-- src/lib.rt:295:8
+high-tag-requires : tie.Need-high-tag-requires
+high-tag-requires c κs = search needs
+
+-- src/lib.rt:296:9
 returns-3 : tie.Need-returns-3
-unfolding indexOf tags table
-returns-3 c = rw (c .match .keys3)
+returns-3 c = slot-found (c .before .before .before .before .before .args .tag) (c .before .before .high-slot .result) (c .before .before .before .before .before .pre) (sym (c .before .high-tag .ensures) ∙ c .if3 .taken)
 
+-- src/lib.rt:284:1
 returns-4 : tie.Need-returns-4
-unfolding indexOf tags table
-returns-4 c = rw (c .match .keys4)
-
-returns-5 : tie.Need-returns-5
-unfolding indexOf tags table
-returns-5 c = rw (c .match .keys5)
-
-returns-6 : tie.Need-returns-6
-unfolding indexOf tags table
-returns-6 c = rw (c .match .keys6)
-
-returns-7 : tie.Need-returns-7
-unfolding indexOf tags table
-returns-7 c = rw (c .match .keys7)
-
-returns-8 : tie.Need-returns-8
-unfolding indexOf tags table
-returns-8 c = rw (c .match .keys8)
-
-returns-9 : tie.Need-returns-9
-unfolding indexOf tags table
-returns-9 c = rw (c .match .keys9)
-
-returns-10 : tie.Need-returns-10
-unfolding indexOf tags table
-returns-10 c = rw (c .match .keys10)
-
-returns-11 : tie.Need-returns-11
-unfolding indexOf tags table
-returns-11 c = rw (c .match .keys11)
-
-returns-12 : tie.Need-returns-12
-unfolding indexOf tags table
-returns-12 c = rw (c .match .keys12)
-
-returns-13 : tie.Need-returns-13
-unfolding indexOf tags table
-returns-13 c = rw (c .match .keys13)
-
-returns-14 : tie.Need-returns-14
-unfolding indexOf tags table
-returns-14 c = rw (c .match .keys14)
-
-returns-15 : tie.Need-returns-15
-unfolding indexOf tags table
-returns-15 c = rw (c .match .keys15)
-
-returns-16 : tie.Need-returns-16
-unfolding indexOf tags table
-returns-16 c = rw (c .match .keys16)
-
-returns-17 : tie.Need-returns-17
-unfolding indexOf tags table
-returns-17 c = rw (c .match .keys17)
-
-returns-18 : tie.Need-returns-18
-unfolding indexOf tags table
-returns-18 c = simp (ne-eqb _ _ (c .match .rest .0 .0 .0 .0 .0 .0 .0 .0 .0 .0 .0 .0 .0 .0 .0 .0 .1), ne-eqb _ _ (c .match .rest .0 .0 .0 .0 .0 .0 .0 .0 .0 .0 .0 .0 .0 .0 .0 .1), ne-eqb _ _ (c .match .rest .0 .0 .0 .0 .0 .0 .0 .0 .0 .0 .0 .0 .0 .0 .1), ne-eqb _ _ (c .match .rest .0 .0 .0 .0 .0 .0 .0 .0 .0 .0 .0 .0 .0 .1), ne-eqb _ _ (c .match .rest .0 .0 .0 .0 .0 .0 .0 .0 .0 .0 .0 .0 .1), ne-eqb _ _ (c .match .rest .0 .0 .0 .0 .0 .0 .0 .0 .0 .0 .0 .1), ne-eqb _ _ (c .match .rest .0 .0 .0 .0 .0 .0 .0 .0 .0 .0 .1), ne-eqb _ _ (c .match .rest .0 .0 .0 .0 .0 .0 .0 .0 .0 .1), ne-eqb _ _ (c .match .rest .0 .0 .0 .0 .0 .0 .0 .0 .1), ne-eqb _ _ (c .match .rest .0 .0 .0 .0 .0 .0 .0 .1), ne-eqb _ _ (c .match .rest .0 .0 .0 .0 .0 .0 .1), ne-eqb _ _ (c .match .rest .0 .0 .0 .0 .0 .1), ne-eqb _ _ (c .match .rest .0 .0 .0 .0 .1), ne-eqb _ _ (c .match .rest .0 .0 .0 .1), ne-eqb _ _ (c .match .rest .0 .0 .1), ne-eqb _ _ (c .match .rest .0 .1), ne-eqb _ _ (c .match .rest .1))
+returns-4 c = slot-none (c .before .before .before .before .before .args .tag) (c .before .before .high-slot .result) (c .before .before .before .if2 .left) (c .before .before .high-slot .ensures) (λ e. c .if3 .left (c .before .high-tag .ensures ∙ e))
 
 pub slot-of-spec : {M : Type 1} → statement M
 slot-of-spec =
     tie.close
     (tie.spec
     returns
+    low-slot-requires
     returns-2
+    high-slot-requires
+    high-tag-requires
     returns-3
-    returns-4
-    returns-5
-    returns-6
-    returns-7
-    returns-8
-    returns-9
-    returns-10
-    returns-11
-    returns-12
-    returns-13
-    returns-14
-    returns-15
-    returns-16
-    returns-17
-    returns-18)
+    returns-4)

@@ -1,73 +1,28 @@
-use mathlib.Core.List.{List, []}
-use Rattle.strips.proofs.Answers.{gapFrom, gap-start, gap-turn, gap-end}
-use mathlib.Core.Path.{_≡_, _∙_}
-use Prim.Native.Nat.{ℕ, _+_, _-_, _*_, _≤_, _<_}
-use native.Mathlib.Omega.{arith}
+use Rattle.strips.specs.Gaps.{rangesOf}
+use Rattle.strips.proofs.Answers.{gap-exact, gap-behind}
+use borrow.Author.Needs.{needs}
 use Rattle.strips.proofs.gap_of.Statement.{statement}
 use Rattle.strips.proofs.gap_of.Tie as tie
 use Rattle.strips.proofs.gap_of.Reads as reads
 use Rattle.strips.proofs.gap_of.Lts as lts
-use Rattle.strips.proofs.narrow.Reads as narrow-reads
+use Rattle.strips.proofs.top_of.Reads as top-of-reads
+use Rattle.strips.proofs.exact_gap.Reads as exact-gap-reads
 
-abbrev Inv-loop : tie.InvT-loop
-Inv-loop starts lens m start end g₀ j₀ g j = (j ≤ m) × (g ≡ gapFrom starts lens m start end j)
+-- src/lib.rt:133:9
+top-of-requires : tie.Need-top-of-requires
+top-of-requires c κs = search needs
 
-abbrev μ-loop : tie.MeasureT-loop
-μ-loop starts lens m start end g₀ j₀ g j = j
+-- src/lib.rt:135:9
+exact-gap-requires : tie.Need-exact-gap-requires
+exact-gap-requires c κs = search needs
 
--- src/lib.rt:88:5
-loop-holds : tie.Need-loop-holds Inv-loop μ-loop
-loop-holds c = (omega arith, gap-start (c .before .before .args .starts .now) (c .before .before .args .lens .now) (c .before .before .args .m) (c .before .before .args .start) (c .before .before .args .end))
+-- src/lib.rt:135:9
+returns : tie.Need-returns
+returns c = gap-exact (c .before .before .before .before .before .args .start) (c .before .before .before .before .before .args .end) (rangesOf (c .before .before .before .before .before .args .starts .now) (c .before .before .before .before .before .args .lens .now) (c .before .before .before .before .before .args .m)) (c .before .before .top-of .result) (c .exact-gap .result) (c .before .before .top-of .ensures) (c .before .if1 .taken) (c .exact-gap .ensures)
 
--- src/lib.rt:89:9
-sub-j : tie.Need-sub-j Inv-loop μ-loop
-sub-j c = omega arith
-
--- src/lib.rt:90:35
-mul-narrow : tie.Need-mul-narrow Inv-loop μ-loop
-mul-narrow c = omega arith
-
--- src/lib.rt:90:35
-shared-slice-read-narrow : tie.Need-shared-slice-read-narrow Inv-loop μ-loop
-shared-slice-read-narrow c = omega arith
-
--- src/lib.rt:90:46
-mul-narrow-2 : tie.Need-mul-narrow-2 Inv-loop μ-loop
-mul-narrow-2 c = omega arith
-
--- src/lib.rt:90:46
-shared-slice-read-narrow-2 : tie.Need-shared-slice-read-narrow-2 Inv-loop μ-loop
-shared-slice-read-narrow-2 c = omega arith
-
--- src/lib.rt:90:9
-narrow-requires : tie.Need-narrow-requires Inv-loop μ-loop
-narrow-requires c κs = (c .before .before .before .before .before .before .pre .2 _, c .before .before .before .before .before .before .pre .3 _)
-
--- src/lib.rt:88:5
-loop-less : tie.Need-loop-less Inv-loop μ-loop
-loop-less c = omega arith
-
--- src/lib.rt:88:5
-loop-again : tie.Need-loop-again Inv-loop μ-loop
-loop-again c = (omega arith, c .narrow .ensures ∙ gap-turn (c .before .before .before .before .before .before .before .args .starts .now) (c .before .before .before .before .before .before .before .args .lens .now) (c .before .before .before .before .before .before .before .args .m) (c .before .before .before .before .before .before .before .args .start) (c .before .before .before .before .before .before .before .args .end) (c .before .before .before .before .loop .j) (c .before .before .before .before .loop .g) (c .before .before .before .loop-test .taken) (c .before .before .before .before .loop .inv .0) (c .before .before .before .before .loop .inv .1))
-
--- src/lib.rt:78:1
-returns : tie.Need-returns Inv-loop μ-loop
-returns c = gap-end (c .before .before .before .before .args .starts .now) (c .before .before .before .before .args .lens .now) (c .before .before .before .before .args .m) (c .before .before .before .before .args .start) (c .before .before .before .before .args .end) (c .before .loop .j) (c .before .loop .g) (c .loop-test .left) (c .before .loop .inv .1)
+-- src/lib.rt:129:1
+returns-2 : tie.Need-returns-2
+returns-2 c = gap-behind (c .before .before .before .before .args .start) (c .before .before .before .before .args .end) (rangesOf (c .before .before .before .before .args .starts .now) (c .before .before .before .before .args .lens .now) (c .before .before .before .before .args .m)) (c .before .top-of .result) (c .before .top-of .ensures) (c .if1 .left)
 
 pub gap-of-spec : {M : Type 1} → statement M
-gap-of-spec =
-    tie.close
-    (tie.spec
-    Inv-loop
-    μ-loop
-    loop-holds
-    sub-j
-    mul-narrow
-    shared-slice-read-narrow
-    mul-narrow-2
-    shared-slice-read-narrow-2
-    narrow-requires
-    loop-less
-    loop-again
-    returns)
+gap-of-spec = tie.close (tie.spec top-of-requires exact-gap-requires returns returns-2)

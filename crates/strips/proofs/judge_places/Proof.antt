@@ -102,11 +102,14 @@ loop-again c =
     let e = c .before .before .larger .ensures in
     let f = c .before .smaller .ensures in
     let g = ap (λ (g : Gap). g .touch) (sym (c .before .before .before .before .gap-of .ensures)) ∙ c .before .before .before .if3 .left in
-    let q = gap-clear (c .before .before .before .before .before .before .before .before .before .before .skip .result .start) (c .before .before .before .before .before .before .before .before .before .before .skip .result .len) (subst (λ (x : ℕ). 0 < x) (sym (c .before .before .before .before .before .before .before .before .before .before .skip .ensures .len (c .before .before .before .before .before .before .before .before .if1 .left))) (some-bytes (c .before .before .before .before .before .before .before .before .before .before .before .before .before .before .before .before .before .args .big) (width (c .before .before .before .before .before .before .before .before .before .before .before .before .before .before .before .before .before .args .wideoffsets)) (c .before .before .before .before .before .before .before .before .before .before .before .before .before .before .before .before .before .args .offsets .now) (width (c .before .before .before .before .before .before .before .before .before .before .before .before .before .before .before .before .before .args .widecounts)) (c .before .before .before .before .before .before .before .before .before .before .before .before .before .before .before .before .before .args .counts .now) (c .before .before .before .before .before .before .before .before .before .before .before .before .before .before .before .before .before .args .k) (c .before .before .before .before .before .before .before .before .before .before .before .before .before .before .before .before .before .args .n) (c .before .before .before .before .before .before .before .before .before .before .skip .result .at) (sym (λ i. eqb (c .before .before .before .before .before .before .before .before .before .before .skip .ensures .len (c .before .before .before .before .before .before .before .before .if1 .left) i) 0 || (ltb (c .before .before .before .before .before .before .before .before .before .before .skip .ensures .start (c .before .before .before .before .before .before .before .before .if1 .left) i) 8 || ltb (c .before .before .before .before .before .before .before .before .before .before .before .before .before .before .before .before .before .args .n) (c .before .before .before .before .before .before .before .before .before .before .skip .ensures .start (c .before .before .before .before .before .before .before .before .if1 .left) i + c .before .before .before .before .before .before .before .before .before .before .skip .ensures .len (c .before .before .before .before .before .before .before .before .if1 .left) i))) ∙ sym (c .before .before .before .before .before .before .before .is-bad .ensures) ∙ c .before .before .before .before .before .before .if2 .left))) (rangesOf (c .before .before .before .before .before .before .before .before .before .before .before .before .before .before .before .before .before .args .starts .now) (c .before .before .before .before .before .before .before .before .before .before .before .before .before .before .before .before .before .args .lens .now) (c .before .before .before .before .before .before .before .before .before .before .before .before .before .before .before .before .before .args .m)) g in
-    (omega arith, omega arith, omega arith,
-    rw (e, f, c .before .before .before .before .gap-of .ensures) (clear-within (gapOf (c .before .before .before .before .before .before .before .before .before .before .skip .result .start) (c .before .before .before .before .before .before .before .before .before .before .skip .result .start + c .before .before .before .before .before .before .before .before .before .before .skip .result .len) (rangesOf (c .before .before .before .before .before .before .before .before .before .before .before .before .before .before .before .before .before .args .starts .now) (c .before .before .before .before .before .before .before .before .before .before .before .before .before .before .before .before .before .args .lens .now) (c .before .before .before .before .before .before .before .before .before .before .before .before .before .before .before .before .before .args .m))) (c .before .before .before .before .before .before .before .before .before .before .before .before .before .before .before .before .before .args .n) (rangesOf (c .before .before .before .before .before .before .before .before .before .before .before .before .before .before .before .before .before .args .starts .now) (c .before .before .before .before .before .before .before .before .before .before .before .before .before .before .before .before .before .args .lens .now) (c .before .before .before .before .before .before .before .before .before .before .before .before .before .before .before .before .before .args .m)) q),
-    (c .before .before .before .before .before .before .before .before .before .before .before .before .loop .inv .4 ∙ c .before .before .before .before .before .before .before .before .before .before .skip .ensures .thirteen (c .before .before .before .before .before .before .before .before .before .before .before .before .before .before .before .before .before .args .n) (c .before .before .before .before .before .before .before .before .before .before .before .before .loop .inv .1) (c .before .before .before .before .before .before .before .before .before .before .before .before .loop .inv .2)) ∙ good-here (c .before .before .before .before .before .before .before .before .before .before .before .before .before .before .before .before .before .args .big) (width (c .before .before .before .before .before .before .before .before .before .before .before .before .before .before .before .before .before .args .wideoffsets)) (c .before .before .before .before .before .before .before .before .before .before .before .before .before .before .before .before .before .args .offsets .now) (width (c .before .before .before .before .before .before .before .before .before .before .before .before .before .before .before .before .before .args .widecounts)) (c .before .before .before .before .before .before .before .before .before .before .before .before .before .before .before .before .before .args .counts .now) (c .before .before .before .before .before .before .before .before .before .before .before .before .before .before .before .before .before .args .k) (c .before .before .before .before .before .before .before .before .before .before .before .before .before .before .before .before .before .args .n) (c .before .before .before .before .before .before .before .before .before .before .skip .result .at) (c .before .before .before .before .before .before .before .before .if1 .left) (sym (λ i. eqb (c .before .before .before .before .before .before .before .before .before .before .skip .ensures .len (c .before .before .before .before .before .before .before .before .if1 .left) i) 0 || (ltb (c .before .before .before .before .before .before .before .before .before .before .skip .ensures .start (c .before .before .before .before .before .before .before .before .if1 .left) i) 8 || ltb (c .before .before .before .before .before .before .before .before .before .before .before .before .before .before .before .before .before .args .n) (c .before .before .before .before .before .before .before .before .before .before .skip .ensures .start (c .before .before .before .before .before .before .before .before .if1 .left) i + c .before .before .before .before .before .before .before .before .before .before .skip .ensures .len (c .before .before .before .before .before .before .before .before .if1 .left) i))) ∙ sym (c .before .before .before .before .before .before .before .is-bad .ensures) ∙ c .before .before .before .before .before .before .if2 .left),
-    (c .before .before .before .before .before .before .before .before .before .before .before .before .loop .inv .5 ∙ c .before .before .before .before .before .before .before .before .before .before .skip .ensures .fourteen (rangesOf (c .before .before .before .before .before .before .before .before .before .before .before .before .before .before .before .before .before .args .starts .now) (c .before .before .before .before .before .before .before .before .before .before .before .before .before .before .before .before .before .args .lens .now) (c .before .before .before .before .before .before .before .before .before .before .before .before .before .before .before .before .before .args .m)) (c .before .before .before .before .before .before .before .before .before .before .before .before .loop .inv .3)) ∙ free-here (c .before .before .before .before .before .before .before .before .before .before .before .before .before .before .before .before .before .args .big) (width (c .before .before .before .before .before .before .before .before .before .before .before .before .before .before .before .before .before .args .wideoffsets)) (c .before .before .before .before .before .before .before .before .before .before .before .before .before .before .before .before .before .args .offsets .now) (width (c .before .before .before .before .before .before .before .before .before .before .before .before .before .before .before .before .before .args .widecounts)) (c .before .before .before .before .before .before .before .before .before .before .before .before .before .before .before .before .before .args .counts .now) (c .before .before .before .before .before .before .before .before .before .before .before .before .before .before .before .before .before .args .k) (c .before .before .before .before .before .before .before .before .before .before .before .before .before .before .before .before .before .args .n) (rangesOf (c .before .before .before .before .before .before .before .before .before .before .before .before .before .before .before .before .before .args .starts .now) (c .before .before .before .before .before .before .before .before .before .before .before .before .before .before .before .before .before .args .lens .now) (c .before .before .before .before .before .before .before .before .before .before .before .before .before .before .before .before .before .args .m)) (c .before .before .before .before .before .before .before .before .before .before .skip .result .at) (c .before .before .before .before .before .before .before .before .if1 .left) (sym (λ i. some (shares (part (c .before .before .before .before .before .before .before .before .before .before .skip .ensures .start (c .before .before .before .before .before .before .before .before .if1 .left) i) (c .before .before .before .before .before .before .before .before .before .before .skip .ensures .len (c .before .before .before .before .before .before .before .before .if1 .left) i))) (rangesOf (c .before .before .before .before .before .before .before .before .before .before .before .before .before .before .before .before .before .args .starts .now) (c .before .before .before .before .before .before .before .before .before .before .before .before .before .before .before .before .before .args .lens .now) (c .before .before .before .before .before .before .before .before .before .before .before .before .before .before .before .before .before .args .m))) ∙ sym (gap-touch (c .before .before .before .before .before .before .before .before .before .before .skip .result .start) (c .before .before .before .before .before .before .before .before .before .before .skip .result .len) (subst (λ (x : ℕ). 0 < x) (sym (c .before .before .before .before .before .before .before .before .before .before .skip .ensures .len (c .before .before .before .before .before .before .before .before .if1 .left))) (some-bytes (c .before .before .before .before .before .before .before .before .before .before .before .before .before .before .before .before .before .args .big) (width (c .before .before .before .before .before .before .before .before .before .before .before .before .before .before .before .before .before .args .wideoffsets)) (c .before .before .before .before .before .before .before .before .before .before .before .before .before .before .before .before .before .args .offsets .now) (width (c .before .before .before .before .before .before .before .before .before .before .before .before .before .before .before .before .before .args .widecounts)) (c .before .before .before .before .before .before .before .before .before .before .before .before .before .before .before .before .before .args .counts .now) (c .before .before .before .before .before .before .before .before .before .before .before .before .before .before .before .before .before .args .k) (c .before .before .before .before .before .before .before .before .before .before .before .before .before .before .before .before .before .args .n) (c .before .before .before .before .before .before .before .before .before .before .skip .result .at) (sym (λ i. eqb (c .before .before .before .before .before .before .before .before .before .before .skip .ensures .len (c .before .before .before .before .before .before .before .before .if1 .left) i) 0 || (ltb (c .before .before .before .before .before .before .before .before .before .before .skip .ensures .start (c .before .before .before .before .before .before .before .before .if1 .left) i) 8 || ltb (c .before .before .before .before .before .before .before .before .before .before .before .before .before .before .before .before .before .args .n) (c .before .before .before .before .before .before .before .before .before .before .skip .ensures .start (c .before .before .before .before .before .before .before .before .if1 .left) i + c .before .before .before .before .before .before .before .before .before .before .skip .ensures .len (c .before .before .before .before .before .before .before .before .if1 .left) i))) ∙ sym (c .before .before .before .before .before .before .before .is-bad .ensures) ∙ c .before .before .before .before .before .before .if2 .left))) (rangesOf (c .before .before .before .before .before .before .before .before .before .before .before .before .before .before .before .before .before .args .starts .now) (c .before .before .before .before .before .before .before .before .before .before .before .before .before .before .before .before .before .args .lens .now) (c .before .before .before .before .before .before .before .before .before .before .before .before .before .before .before .before .before .args .m))) ∙ sym (ap (λ (g : Gap). g .touch) (c .before .before .before .before .gap-of .ensures)) ∙ c .before .before .before .if3 .left))
+    let q = gap-clear (c .before .before .before .before .before .before .before .before .before .before .skip .result .start) (c .before .before .before .before .before .before .before .before .before .before .skip .result .len) (subst (λ (x : ℕ). 0 < x) (sym (c .before .before .before .before .before .before .before .before .before .before .skip .ensures .len (c .before .before .before .before .before .before .before .before .if1 .left))) (some-bytes (c .before .before .before .before .before .before .before .before .before .before .before .before .before .before .before .before .before .args .big) (width (c .before .before .before .before .before .before .before .before .before .before .before .before .before .before .before .before .before .args .wideoffsets)) (c .before .before .before .before .before .before .before .before .before .before .before .before .before .before .before .before .before .args .offsets .now) (width (c .before .before .before .before .before .before .before .before .before .before .before .before .before .before .before .before .before .args .widecounts)) (c .before .before .before .before .before .before .before .before .before .before .before .before .before .before .before .before .before .args .counts .now) (c .before .before .before .before .before .before .before .before .before .before .before .before .before .before .before .before .before .args .k) (c .before .before .before .before .before .before .before .before .before .before .before .before .before .before .before .before .before .args .n) (c .before .before .before .before .before .before .before .before .before .before .skip .result .at) (sym (λ i. eqb (c .before .before .before .before .before .before .before .before .before .before .skip .ensures .len (c .before .before .before .before .before .before .before .before .if1 .left) i) 0 || (ltb (c .before .before .before .before .before .before .before .before .before .before .skip .ensures .start (c .before .before .before .before .before .before .before .before .if1 .left) i) 8 || ltb (c .before .before .before .before .before .before .before .before .before .before .before .before .before .before .before .before .before .args .n) (c .before .before .before .before .before .before .before .before .before .before .skip .ensures .start (c .before .before .before .before .before .before .before .before .if1 .left) i + c .before .before .before .before .before .before .before .before .before .before .skip .ensures .len (c .before .before .before .before .before .before .before .before .if1 .left) i))) ∙ sym (c .before .before .before .before .before .before .before .is-bad .ensures) ∙ c .before .before .before .before .before .before .if2 .left))) (rangesOf (c .before .before .before .before .before .before .before .before .before .before .before .before .before .before .before .before .before .args .starts .now) (c .before .before .before .before .before .before .before .before .before .before .before .before .before .before .before .before .before .args .lens .now) (c .before .before .before .before .before .before .before .before .before .before .before .before .before .before .before .before .before .args .m)) g in (
+      omega arith,
+      omega arith,
+      omega arith,
+      rw (e, f, c .before .before .before .before .gap-of .ensures) (clear-within (gapOf (c .before .before .before .before .before .before .before .before .before .before .skip .result .start) (c .before .before .before .before .before .before .before .before .before .before .skip .result .start + c .before .before .before .before .before .before .before .before .before .before .skip .result .len) (rangesOf (c .before .before .before .before .before .before .before .before .before .before .before .before .before .before .before .before .before .args .starts .now) (c .before .before .before .before .before .before .before .before .before .before .before .before .before .before .before .before .before .args .lens .now) (c .before .before .before .before .before .before .before .before .before .before .before .before .before .before .before .before .before .args .m))) (c .before .before .before .before .before .before .before .before .before .before .before .before .before .before .before .before .before .args .n) (rangesOf (c .before .before .before .before .before .before .before .before .before .before .before .before .before .before .before .before .before .args .starts .now) (c .before .before .before .before .before .before .before .before .before .before .before .before .before .before .before .before .before .args .lens .now) (c .before .before .before .before .before .before .before .before .before .before .before .before .before .before .before .before .before .args .m)) q),
+      (c .before .before .before .before .before .before .before .before .before .before .before .before .loop .inv .4 ∙ c .before .before .before .before .before .before .before .before .before .before .skip .ensures .thirteen (c .before .before .before .before .before .before .before .before .before .before .before .before .before .before .before .before .before .args .n) (c .before .before .before .before .before .before .before .before .before .before .before .before .loop .inv .1) (c .before .before .before .before .before .before .before .before .before .before .before .before .loop .inv .2)) ∙ good-here (c .before .before .before .before .before .before .before .before .before .before .before .before .before .before .before .before .before .args .big) (width (c .before .before .before .before .before .before .before .before .before .before .before .before .before .before .before .before .before .args .wideoffsets)) (c .before .before .before .before .before .before .before .before .before .before .before .before .before .before .before .before .before .args .offsets .now) (width (c .before .before .before .before .before .before .before .before .before .before .before .before .before .before .before .before .before .args .widecounts)) (c .before .before .before .before .before .before .before .before .before .before .before .before .before .before .before .before .before .args .counts .now) (c .before .before .before .before .before .before .before .before .before .before .before .before .before .before .before .before .before .args .k) (c .before .before .before .before .before .before .before .before .before .before .before .before .before .before .before .before .before .args .n) (c .before .before .before .before .before .before .before .before .before .before .skip .result .at) (c .before .before .before .before .before .before .before .before .if1 .left) (sym (λ i. eqb (c .before .before .before .before .before .before .before .before .before .before .skip .ensures .len (c .before .before .before .before .before .before .before .before .if1 .left) i) 0 || (ltb (c .before .before .before .before .before .before .before .before .before .before .skip .ensures .start (c .before .before .before .before .before .before .before .before .if1 .left) i) 8 || ltb (c .before .before .before .before .before .before .before .before .before .before .before .before .before .before .before .before .before .args .n) (c .before .before .before .before .before .before .before .before .before .before .skip .ensures .start (c .before .before .before .before .before .before .before .before .if1 .left) i + c .before .before .before .before .before .before .before .before .before .before .skip .ensures .len (c .before .before .before .before .before .before .before .before .if1 .left) i))) ∙ sym (c .before .before .before .before .before .before .before .is-bad .ensures) ∙ c .before .before .before .before .before .before .if2 .left),
+      (c .before .before .before .before .before .before .before .before .before .before .before .before .loop .inv .5 ∙ c .before .before .before .before .before .before .before .before .before .before .skip .ensures .fourteen (rangesOf (c .before .before .before .before .before .before .before .before .before .before .before .before .before .before .before .before .before .args .starts .now) (c .before .before .before .before .before .before .before .before .before .before .before .before .before .before .before .before .before .args .lens .now) (c .before .before .before .before .before .before .before .before .before .before .before .before .before .before .before .before .before .args .m)) (c .before .before .before .before .before .before .before .before .before .before .before .before .loop .inv .3)) ∙ free-here (c .before .before .before .before .before .before .before .before .before .before .before .before .before .before .before .before .before .args .big) (width (c .before .before .before .before .before .before .before .before .before .before .before .before .before .before .before .before .before .args .wideoffsets)) (c .before .before .before .before .before .before .before .before .before .before .before .before .before .before .before .before .before .args .offsets .now) (width (c .before .before .before .before .before .before .before .before .before .before .before .before .before .before .before .before .before .args .widecounts)) (c .before .before .before .before .before .before .before .before .before .before .before .before .before .before .before .before .before .args .counts .now) (c .before .before .before .before .before .before .before .before .before .before .before .before .before .before .before .before .before .args .k) (c .before .before .before .before .before .before .before .before .before .before .before .before .before .before .before .before .before .args .n) (rangesOf (c .before .before .before .before .before .before .before .before .before .before .before .before .before .before .before .before .before .args .starts .now) (c .before .before .before .before .before .before .before .before .before .before .before .before .before .before .before .before .before .args .lens .now) (c .before .before .before .before .before .before .before .before .before .before .before .before .before .before .before .before .before .args .m)) (c .before .before .before .before .before .before .before .before .before .before .skip .result .at) (c .before .before .before .before .before .before .before .before .if1 .left) (sym (λ i. some (shares (part (c .before .before .before .before .before .before .before .before .before .before .skip .ensures .start (c .before .before .before .before .before .before .before .before .if1 .left) i) (c .before .before .before .before .before .before .before .before .before .before .skip .ensures .len (c .before .before .before .before .before .before .before .before .if1 .left) i))) (rangesOf (c .before .before .before .before .before .before .before .before .before .before .before .before .before .before .before .before .before .args .starts .now) (c .before .before .before .before .before .before .before .before .before .before .before .before .before .before .before .before .before .args .lens .now) (c .before .before .before .before .before .before .before .before .before .before .before .before .before .before .before .before .before .args .m))) ∙ sym (gap-touch (c .before .before .before .before .before .before .before .before .before .before .skip .result .start) (c .before .before .before .before .before .before .before .before .before .before .skip .result .len) (subst (λ (x : ℕ). 0 < x) (sym (c .before .before .before .before .before .before .before .before .before .before .skip .ensures .len (c .before .before .before .before .before .before .before .before .if1 .left))) (some-bytes (c .before .before .before .before .before .before .before .before .before .before .before .before .before .before .before .before .before .args .big) (width (c .before .before .before .before .before .before .before .before .before .before .before .before .before .before .before .before .before .args .wideoffsets)) (c .before .before .before .before .before .before .before .before .before .before .before .before .before .before .before .before .before .args .offsets .now) (width (c .before .before .before .before .before .before .before .before .before .before .before .before .before .before .before .before .before .args .widecounts)) (c .before .before .before .before .before .before .before .before .before .before .before .before .before .before .before .before .before .args .counts .now) (c .before .before .before .before .before .before .before .before .before .before .before .before .before .before .before .before .before .args .k) (c .before .before .before .before .before .before .before .before .before .before .before .before .before .before .before .before .before .args .n) (c .before .before .before .before .before .before .before .before .before .before .skip .result .at) (sym (λ i. eqb (c .before .before .before .before .before .before .before .before .before .before .skip .ensures .len (c .before .before .before .before .before .before .before .before .if1 .left) i) 0 || (ltb (c .before .before .before .before .before .before .before .before .before .before .skip .ensures .start (c .before .before .before .before .before .before .before .before .if1 .left) i) 8 || ltb (c .before .before .before .before .before .before .before .before .before .before .before .before .before .before .before .before .before .args .n) (c .before .before .before .before .before .before .before .before .before .before .skip .ensures .start (c .before .before .before .before .before .before .before .before .if1 .left) i + c .before .before .before .before .before .before .before .before .before .before .skip .ensures .len (c .before .before .before .before .before .before .before .before .if1 .left) i))) ∙ sym (c .before .before .before .before .before .before .before .is-bad .ensures) ∙ c .before .before .before .before .before .before .if2 .left))) (rangesOf (c .before .before .before .before .before .before .before .before .before .before .before .before .before .before .before .before .before .args .starts .now) (c .before .before .before .before .before .before .before .before .before .before .before .before .before .before .before .before .before .args .lens .now) (c .before .before .before .before .before .before .before .before .before .before .before .before .before .before .before .before .before .args .m))) ∙ sym (ap (λ (g : Gap). g .touch) (c .before .before .before .before .gap-of .ensures)) ∙ c .before .before .before .if3 .left),
+    )
 
 -- src/lib.rt:167:1
 returns-4 : tie.Need-returns-4 Inv-loop μ-loop
