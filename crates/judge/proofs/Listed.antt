@@ -7,7 +7,7 @@ use mathlib.Core.List.{List, [], _∷_, _++_, map}
 use native.Mathlib.Omega.{arith}
 use lib.Dec.{eqb, leb, ltb}
 use lib.ListN.{length, getD}
-use borrow.Author.Tests.{eqb-true, eqb-false, eq-eqb, ne-eqb, ltb-true, ltb-false, lt-ltb, le-ltb}
+use borrow.Author.Tests.{eqb-true, eqb-false, eq-eqb, ne-eqb, ltb-true, ltb-false, lt-ltb, le-ltb, not-true}
 use Rattle.paper.specs.Bytes.{build}
 use Rattle.paper.specs.Outcome.{ascending, ascendingFrom, first, _▸_}
 use Rattle.paper.specs.declared.Outcome.{Outcome}
@@ -20,6 +20,8 @@ use Rattle.paper.specs.Asked.{noStrip}
 use Rattle.paper.proofs.Laws.{and-eq, first-same}
 use Rattle.paper.proofs.Loops.{listedIs, some-values}
 use Rattle.layout.specs.Columns.{tags, fieldOf, column, startsOf, lensOf}
+use Rattle.paper.proofs.Store.{notIn, distinct}
+use Rattle.layout.proofs.Finding.{tags-distinct}
 use Rattle.layout.proofs.Values.{untyped-len}
 use Rattle.strips.specs.Gaps.{rangeAt, rangesOf, placesJudged}
 use Rattle.paper.specs.declared.Entry.{Entry}
@@ -39,18 +41,6 @@ absent-above field a t (e ∷ es) l h = go (ltb a (e .tag)) refl (λ k. absent-a
     go false q r = let w : broken (e .tag) ≡ kept = rw q at h in cc
 
 -- ---- one entry more, over a list of tags
-
-abbrev notIn : ℕ → List ℕ → Bool
-notIn x [] = true
-notIn x (y ∷ ys) = not (eqb x y) && notIn x ys
-
-abbrev distinct : List ℕ → Bool
-distinct [] = true
-distinct (y ∷ ys) = notIn y ys && distinct ys
-
-not-true : (b : Bool) → not b ≡ true → b ≡ false
-not-true true h = absurd (false≢true h)
-not-true false h = refl
 
 some-same : (p q : ℕ → Bool) (x : ℕ) (ts : List ℕ) → notIn x ts ≡ true → ((t : ℕ) → eqb x t ≡ false → p t ≡ q t) → some p ts ≡ some q ts
 unfolding some
@@ -117,10 +107,6 @@ module _ (is : Part → Bool) (none : (s : ℕ) → is (part s 0) ≡ false) whe
   untyped-is : (e : Entry) → untyped e ≡ true → typed e ≡ false → e .len ≡ 0
   unfolding untyped
   untyped-is e h q = let w : eqb (e .len) 0 ≡ true = rw q at h in eqb-true _ _ w
-
-  tags-distinct : distinct tags ≡ true
-  unfolding tags table
-  tags-distinct = refl
 
   in-tags : (x : ℕ) → some (λ t. eqb t x) tags ≡ inTable table x
   unfolding tags table inTable some

@@ -2,7 +2,6 @@ pub mod Known
 pub mod Numbers
 pub mod Head
 pub mod Placed
-pub mod Store
 pub mod Turn
 pub mod Rows
 pub mod Judged

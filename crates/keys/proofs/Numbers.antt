@@ -11,29 +11,10 @@ use Rattle.paper.specs.Tests.{just, inRange, some, all}
 use Rattle.paper.specs.Key
 use Rattle.paper.specs.Keys.{findKey, hasKey, keyValue, rule18, Fixed, fixed, fixedKeys, forbidden, rule19}
 use Rattle.paper.specs.declared.KeyEntry.{KeyEntry}
-use Rattle.paper.proofs.Laws.{and-eq}
+use Rattle.paper.proofs.Laws.{and-eq, just-is}
 use Rattle.keys.specs.Pass.{none, held, needed, wrong, oneOrTwo, zones, heights, allowed}
 
 -- ---- one number
-
-just-is : (v a : ℕ) → inRange v (just a) ≡ eqb v a
-just-is v a = go (eqb v a) refl
-  where
-    apart : (b : Bool) → leb a v && leb v a ≡ b → (v ≡ a → ⊥) → b ≡ false
-    apart false p n = refl
-    apart true p n =
-        let h = and-eq (leb a v) (leb v a) p in
-        let l : a ≤ v = leb-true a v (h .0) in
-        let m : v ≤ a = leb-true v a (h .1) in
-        absurd (n (omega arith))
-
-    go : (b : Bool) → eqb v a ≡ b → leb a v && leb v a ≡ eqb v a
-    go true p =
-        let e : v ≡ a = eqb-true v a p in
-        let l : a ≤ v = omega arith in
-        let m : v ≤ a = omega arith in
-        rw (p, le-leb a v l, le-leb v a m)
-    go false p = rw p (apart _ refl (eqb-false v a p))
 
 -- none of one number or more
 abbrev pub isNone : ℕ → ℕ → List ℕ → Bool

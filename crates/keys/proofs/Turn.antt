@@ -20,8 +20,9 @@ use Rattle.paper.specs.declared.Outcome.{Outcome}
 use Rattle.paper.specs.declared.Outcome.the-variants.{Kept as kept, Broken as broken}
 use Rattle.paper.proofs.Laws.{build-step}
 use Rattle.paper.proofs.Loops.{build-end}
-use Rattle.keys.specs.Pass.{runs, judged, entryRules, entriesJudged, none, nextKey, held, askedKeys, indexOf, finished}
-use Rattle.keys.proofs.Store.{set-index}
+use Rattle.keys.specs.Pass.{runs, judged, entryRules, entriesJudged, none, nextKey, held, askedKeys, finished}
+use Rattle.paper.specs.Tests.{indexOf}
+use Rattle.paper.proofs.Store.{set-index}
 use Rattle.keys.proofs.Numbers.{fits, needed-is, allowed-is, held-is}
 
 -- ---- what is known of the entries ks, and of one more

@@ -66,11 +66,6 @@ askedKeys =
     ∷ Key.verticalCRS
     ∷ []
 
--- where a number stands in a list; the list's length if nowhere
-unfoldable pub indexOf : ℕ → List ℕ → ℕ
-indexOf k [] = 0
-indexOf k (x ∷ xs) = cond (eqb k x) 0 (suc (indexOf k xs))
-
 -- ---- rules 18 and 19, from what is found
 
 unfoldable pub needed : ℕ → ℕ → ℕ → ℕ → Outcome

@@ -17,7 +17,8 @@ ghost use Rattle.paper.specs.Keys.{kindOf, rule15, keyAt, room, inEntry, rightP
 ghost use Rattle.paper.specs.Calls.{rowOf};
 ghost use Rattle.keys.specs.Rows.{startsIn};
 ghost use Rattle.keys.specs.Table.{keyNumbers, keyKinds, slotOf};
-ghost use Rattle.keys.specs.Pass.{runs, judged, keysJudged, entriesJudged, finished, askedKeys, indexOf};
+ghost use Rattle.keys.specs.Pass.{runs, judged, keysJudged, entriesJudged, finished, askedKeys};
+ghost use Rattle.paper.specs.Tests.{indexOf};
 ghost use Rattle.keys.specs.Pass.{needed, wrong, oneOrTwo, zones, heights, allowed};
 
 // What the judgement of the keys answers: verdict, the number of keys K, and whether raster type is PixelIsPoint.

@@ -1,4 +1,4 @@
--- The places of the table's tags: a store at a tag's slot, and what a place says of the entry that is found. Assumes nothing.
+-- The places of the table's tags: what a place says of the entry that is found, and the slot of a tag. Assumes nothing.
 use Prim.Native.Nat.{ℕ, zero, suc, _+_, _-_, _%_, _≤_, _<_, zero-le}
 use mathlib.Core.Path.{_≡_, refl, sym, ap, _∙_, subst}
 use mathlib.Core.Bool.{Bool, true, false, cond, not, _&&_, _||_, false≢true}
@@ -16,38 +16,13 @@ use Rattle.paper.specs.Tags.{absent, table}
 use Rattle.paper.specs.declared.Entry.{Entry}
 use Rattle.paper.specs.Tests.{all}
 use Rattle.paper.proofs.Laws.{and-eq}
+use Rattle.paper.proofs.Store.{distinct}
 use Rattle.paper.specs.Tags.{findEntry}
-use Rattle.layout.specs.Finding.{indexOf, highSlots, highTag, placeFrom, placeIn, places, foundOf}
+use Rattle.layout.specs.Finding.{highSlots, highTag, placeFrom, placeIn, places, foundOf}
+use Rattle.paper.specs.Tests.{indexOf}
 use Rattle.layout.specs.Columns.{tags}
 
--- ---- a store in a table
-
-abbrev pub notIn : ℕ → List ℕ → Bool
-notIn x [] = true
-notIn x (y ∷ ys) = not (eqb x y) && notIn x ys
-
-abbrev pub distinct : List ℕ → Bool
-distinct [] = true
-distinct (y ∷ ys) = notIn y ys && distinct ys
-
-unchanged : (x v : ℕ) (f : ℕ → ℕ) (ts : List ℕ) → notIn x ts ≡ true → map f ts ≡ map (λ t. cond (eqb x t) v (f t)) ts
-unchanged x v f [] h = refl
-unchanged x v f (t ∷ ts) h =
-    let b = and-eq (not (eqb x t)) (notIn x ts) h in
-    rw (not-true (eqb x t) (b .0)) (ap (λ (l : List ℕ). f t ∷ l) (unchanged x v f ts (b .1)))
-
--- a store at the index of x in a table changes what stands for x, and nothing else
-pub set-index : (x v : ℕ) (f : ℕ → ℕ) (ts : List ℕ) → distinct ts ≡ true
-    → set (map f ts) (indexOf x ts) v ≡ map (λ t. cond (eqb x t) v (f t)) ts
-unfolding indexOf
-set-index x v f [] h = refl
-set-index x v f (t ∷ ts) h = go (eqb x t) refl (set-index x v f ts (and-eq (notIn t ts) (distinct ts) h .1))
-  where
-    go : (b : Bool) → eqb x t ≡ b → set (map f ts) (indexOf x ts) v ≡ map (λ (t : ℕ). cond (eqb x t) v (f t)) ts
-        → set (map f (t ∷ ts)) (indexOf x (t ∷ ts)) v ≡ map (λ (t : ℕ). cond (eqb x t) v (f t)) (t ∷ ts)
-    go true e ih =
-        rw e (ap (λ (l : List ℕ). v ∷ l) (unchanged x v f ts (rw (eqb-true x t e) (and-eq (notIn t ts) (distinct ts) h .0))))
-    go false e ih = rw e (ap (λ (l : List ℕ). f t ∷ l) ih)
+-- ---- the table
 
 pub tags-distinct : distinct tags ≡ true
 unfolding tags table

@@ -17,9 +17,11 @@ use Rattle.paper.specs.Layout.{dirLen, entryAt, entries, badValue, rule6, rule7
 use Rattle.paper.specs.Tags.{table}
 use Rattle.paper.proofs.Laws.{build-step}
 use Rattle.paper.proofs.Loops.{build-end}
-use Rattle.layout.specs.Finding.{told, indexOf}
+use Rattle.layout.specs.Finding.{told}
+use Rattle.paper.specs.Tests.{indexOf}
 use Rattle.layout.specs.Columns.{tags, fieldOf, column, typsOf, countsOf, startsOf, lensOf}
-use Rattle.layout.proofs.Finding.{set-index, tags-distinct}
+use Rattle.paper.proofs.Store.{set-index}
+use Rattle.layout.proofs.Finding.{tags-distinct}
 
 -- the first tag of some entries; where there are none, a number above every tag
 abbrev pub firstTag : List Entry → ℕ

@@ -14,11 +14,6 @@ use Rattle.paper.specs.declared.Outcome.the-variants.{Kept as kept, Broken as b
 unfoldable pub told : ℕ → Outcome
 told p = cond (eqb p 65536) kept (broken p)
 
--- the index of a number in a list, or the list's length
-unfoldable pub indexOf : ℕ → List ℕ → ℕ
-indexOf x [] = 0
-indexOf x (y ∷ ys) = cond (eqb x y) 0 (suc (indexOf x ys))
-
 -- the tags of the table above 284 differ in their last four bits: the index of the one with each
 unfoldable pub highSlots : List ℕ
 highSlots = 14 ∷ 15 ∷ 11 ∷ 17 ∷ 17 ∷ 17 ∷ 17 ∷ 17 ∷ 12 ∷ 17 ∷ 17 ∷ 17 ∷ 17 ∷ 16 ∷ 10 ∷ 13 ∷ []

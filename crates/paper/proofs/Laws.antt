@@ -9,10 +9,10 @@ use native.Mathlib.Numerals.{add-one}
 use lib.Dec.{T, eqb, leb, ltb, lit<}
 use lib.ListN.{length, getD, take, drop, length-take, length-drop}
 use lib.Seq.{getD-take, getD-drop, ext-getD, take-take, drop-drop, take-nil}
-use borrow.Author.Tests.{eqb-true, eqb-false}
+use borrow.Author.Tests.{eqb-true, eqb-false, leb-true, le-leb}
 use Rattle.paper.specs.Bytes.{run, num, enc, build, elems}
 use Rattle.paper.specs.Outcome.{Outcome, kept, broken, breaks, firstBad}
-use Rattle.paper.specs.Tests.{all}
+use Rattle.paper.specs.Tests.{all, just, inRange}
 use Rattle.paper.specs.Asked.{Bytes}
 
 -- ---- tests
@@ -38,6 +38,26 @@ or-same false h = h
 pub T-true : (b : Bool) → T b → b ≡ true
 T-true true t = refl
 T-true false t = absurd t
+
+-- a range of one number
+pub just-is : (v a : ℕ) → inRange v (just a) ≡ eqb v a
+just-is v a = go (eqb v a) refl
+  where
+    apart : (b : Bool) → leb a v && leb v a ≡ b → (v ≡ a → ⊥) → b ≡ false
+    apart false p n = refl
+    apart true p n =
+        let h = and-eq (leb a v) (leb v a) p in
+        let l : a ≤ v = leb-true a v (h .0) in
+        let m : v ≤ a = leb-true v a (h .1) in
+        absurd (n (omega arith))
+
+    go : (b : Bool) → eqb v a ≡ b → leb a v && leb v a ≡ eqb v a
+    go true p =
+        let e : v ≡ a = eqb-true v a p in
+        let l : a ≤ v = omega arith in
+        let m : v ≤ a = omega arith in
+        rw (p, le-leb a v l, le-leb v a m)
+    go false p = rw p (apart _ refl (eqb-false v a p))
 
 -- ---- runs
 

@@ -17,5 +17,6 @@ pub mod Tables
 -- laws that the proofs of code cite
 pub mod Laws
 pub mod Loops
+pub mod Store
 pub mod Bounds
 pub mod Doubles

@@ -1,6 +1,5 @@
 -- The picture never shows: two files of one length that agree on the reading list of the first have the same verdict and place, and where
--- it is 0 the same view, of which every other answer is a function. And in an accepted file no byte of a strip is on the list.
--- Assumes nothing.
+-- it is 0 the same view, of which every other answer is a function. Assumes nothing.
 use Prim.Native.Nat.{ℕ, zero, suc, _+_, _-_, _≤_, _<_, min}
 use mathlib.Core.Path.{_≡_, refl, sym, ap, ap₂, _∙_, subst}
 use mathlib.Core.Bool.{Bool, true, false, cond, _||_, _&&_, or-true}

@@ -1,8 +1,8 @@
 -- Tests over lists, and the values that a table allows. Assumes nothing.
-use Prim.Native.Nat.{ℕ}
+use Prim.Native.Nat.{ℕ, suc}
 use mathlib.Core.Bool.{Bool, true, false, cond, _&&_, _||_}
 use mathlib.Core.List.{List, [], _∷_}
-use lib.Dec.{leb}
+use lib.Dec.{eqb, leb}
 
 unfoldable pub all : {A : Type 0} → (A → Bool) → List A → Bool
 all ok [] = true
@@ -15,6 +15,11 @@ some is (x ∷ xs) = is x || some is xs
 unfoldable pub keep : {A : Type 0} → (A → Bool) → List A → List A
 keep is [] = []
 keep is (x ∷ xs) = cond (is x) (x ∷ keep is xs) (keep is xs)
+
+-- the index of a number in a list, counted from 0; the list's length where it is not there
+unfoldable pub indexOf : ℕ → List ℕ → ℕ
+indexOf x [] = 0
+indexOf x (y ∷ ys) = cond (eqb x y) 0 (suc (indexOf x ys))
 
 -- ---- which values are allowed: those in one of some ranges, or, with no range, any
 

@@ -1,6 +1,6 @@
 -- `asked` is the place of a key among those that rules 18 and 19 ask for.
 -- Assumes nothing.
-use Rattle.keys.specs.Pass.{indexOf}
+use Rattle.paper.specs.Tests.{indexOf}
 use borrow.Author.Tests.{ne-eqb}
 use Rattle.keys.proofs.asked.Statement.{statement}
 use Rattle.keys.proofs.asked.Tie as tie

@@ -1,5 +1,5 @@
 -- `low_slot` gives each tag from 256 to 284 its index in the table, arm by arm. Assumes nothing.
-use Rattle.layout.specs.Finding.{indexOf}
+use Rattle.paper.specs.Tests.{indexOf}
 use Rattle.layout.specs.Columns.{tags}
 use Rattle.paper.specs.Tags.{table}
 use Rattle.layout.proofs.Sizes.{narrow}

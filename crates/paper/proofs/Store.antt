@@ -6,14 +6,14 @@ use mathlib.Core.List.{List, [], _∷_, map}
 use lib.Dec.{eqb}
 use lib.ListN.{set}
 use borrow.Author.Tests.{eqb-true}
+use Rattle.paper.specs.Tests.{indexOf}
 use Rattle.paper.proofs.Laws.{and-eq}
-use Rattle.keys.specs.Pass.{indexOf}
 
-abbrev notIn : ℕ → List ℕ → Bool
+abbrev pub notIn : ℕ → List ℕ → Bool
 notIn x [] = true
 notIn x (y ∷ ys) = not (eqb x y) && notIn x ys
 
-abbrev distinct : List ℕ → Bool
+abbrev pub distinct : List ℕ → Bool
 distinct [] = true
 distinct (y ∷ ys) = notIn y ys && distinct ys
 
