@@ -2,3 +2,4 @@ pub mod Listed
 pub mod Chained
 pub mod Shown
 pub mod Laid
+pub mod Seen

@@ -7,13 +7,13 @@ use mathlib.Core.List.{List, [], _∷_, _++_, map}
 use native.Mathlib.Omega.{arith}
 use lib.Dec.{eqb, leb, ltb}
 use lib.ListN.{length, getD}
-use borrow.Author.Tests.{eqb-true, eqb-false, eq-eqb, ne-eqb, ltb-true, ltb-false, lt-ltb, le-ltb, not-true}
-use Rattle.paper.specs.Bytes.{build}
+use borrow.Author.Tests.{eqb-true, eqb-false, eq-eqb, ne-eqb, ltb-true, ltb-false, lt-ltb, le-ltb, leb-true, le-leb, not-true}
+use Rattle.paper.specs.Bytes.{num, build}
 use Rattle.paper.specs.Outcome.{ascending, ascendingFrom, first, _▸_}
 use Rattle.paper.specs.declared.Outcome.{Outcome}
 use Rattle.paper.specs.declared.Outcome.the-variants.{Kept as kept, Broken as broken}
-use Rattle.paper.specs.Tests.{all, some}
-use Rattle.paper.specs.Layout.{dirLen, sizeOf, typed, entries, entryAt, rule6}
+use Rattle.paper.specs.Tests.{all, some, keep}
+use Rattle.paper.specs.Layout.{dirLen, sizeOf, startOf, typed, entries, entryAt, entryOf, rule6}
 use Rattle.paper.specs.Tags.{Line, table, inTable, listed, hold}
 use Rattle.paper.specs.Strips.{Part, part, Strip, shares, valueParts, fullList, touches, rule13, rule14}
 use Rattle.paper.specs.Asked.{noStrip}
@@ -23,7 +23,7 @@ use Rattle.layout.specs.Columns.{tags, fieldOf, column, startsOf, lensOf}
 use Rattle.paper.proofs.Store.{notIn, distinct}
 use Rattle.layout.proofs.Finding.{tags-distinct}
 use Rattle.layout.proofs.Values.{untyped-len}
-use Rattle.strips.specs.Gaps.{rangeAt, rangesOf, placesJudged}
+use Rattle.strips.specs.Gaps.{rangeAt, wide, rangesOf, placesJudged}
 use Rattle.paper.specs.declared.Entry.{Entry}
 
 -- ---- an entry's tag does not come again
@@ -157,17 +157,120 @@ shares-more a at l m h q =
     let v : max (a .start) at < min (a .start + a .len) (at + m) = omega arith in
     lt-ltb _ _ v
 
--- the ranges of the columns, in order: the table's tags, the head, the directory
-ranges-are : (is : Part → Bool) (at c : ℕ) (es : List Entry)
-    → some is (rangesOf (startsOf at es) (lensOf c es) 19)
+-- ---- a value of at most 4 bytes stands in its entry, and so in the directory
+
+shares-inside : (a : Part) (s l at m : ℕ) → at ≤ s → s + l ≤ at + m → shares a (part s l) ≡ true → shares a (part at m) ≡ true
+unfolding shares
+shares-inside a s l at m h k q =
+    let w : max (a .start) s < min (a .start + a .len) (s + l) = ltb-true _ _ q in
+    let v : max (a .start) at < min (a .start + a .len) (at + m) = omega arith in
+    lt-ltb _ _ v
+
+-- it is longer, or lies from `at` up to m bytes further
+inner : ℕ → ℕ → Entry → Bool
+inner at m e = ltb 4 (e .len) || (leb at (e .start) && leb (e .start + e .len) (at + m))
+
+entry-inner : (big : Bool) (at c : ℕ) (dir : List ℕ) (j : ℕ) → j < c → inner at (dirLen c) (entryAt big at dir j) ≡ true
+unfolding inner entryOf startOf
+entry-inner big at c dir j l = go (ltb 4 Len) refl
+  where
+    Len : ℕ
+    Len = sizeOf (num big 2 dir (2 + 12 * j + 2)) * num big 4 dir (2 + 12 * j + 4)
+
+    go : (b : Bool) → ltb 4 Len ≡ b → inner at (dirLen c) (entryAt big at dir j) ≡ true
+    go true e = rw e
+    go false e =
+        let h : Len ≤ 4 = ltb-false _ _ e in
+        let low : at ≤ at + (2 + 12 * j + 8) = omega arith in
+        let high : at + (2 + 12 * j + 8) + Len ≤ at + dirLen c = omega arith in
+        rw (e, le-leb Len 4 h, le-leb at (at + (2 + 12 * j + 8)) low, le-leb (at + (2 + 12 * j + 8) + Len) (at + dirLen c) high)
+
+-- so what shares a byte with a tag's short value shares one with the directory
+short-inside : (a : Part) (at m t : ℕ) (es : List Entry) → all (inner at m) es ≡ true → ltb 4 (fieldOf (λ e. e .len) t es) ≡ false
+    → shares a (part (fieldOf (λ e. e .start) t es) (fieldOf (λ e. e .len) t es)) ≡ true → shares a (part at m) ≡ true
+unfolding all fieldOf inner
+short-inside a at m t [] h w q = absurd (false≢true (sym (shares-none a 0) ∙ q))
+short-inside a at m t (e ∷ es) h w q = go (eqb (e .tag) t) refl (short-inside a at m t es)
+  where
+    both : (inner at m e ≡ true) × (all (inner at m) es ≡ true)
+    both = and-eq (inner at m e) _ h
+
+    go : (b : Bool) → eqb (e .tag) t ≡ b
+        → (all (inner at m) es ≡ true → ltb 4 (fieldOf (λ e. e .len) t es) ≡ false
+        → shares a (part (fieldOf (λ e. e .start) t es) (fieldOf (λ e. e .len) t es)) ≡ true → shares a (part at m) ≡ true)
+        → shares a (part at m) ≡ true
+    go true k rest = here (rw k at w) (rw k at q) (both .0)
+      where
+        here : ltb 4 (e .len) ≡ false → shares a (part (e .start) (e .len)) ≡ true → inner at m e ≡ true → shares a (part at m) ≡ true
+        here u r i =
+            let j : leb at (e .start) && leb (e .start + e .len) (at + m) ≡ true = rw u at i in
+            let n = and-eq (leb at (e .start)) _ j in
+            shares-inside a (e .start) (e .len) at m (leb-true _ _ (n .0)) (leb-true _ _ (n .1)) r
+    go false k rest = rest (both .1) (rw k at w) (rw k at q)
+
+-- ---- the ranges of the columns, in order: the table's tags, the head, the directory
+
+some-keep : {A : Type 0} (ok is : A → Bool) (xs : List A) → some is (keep ok xs) ≡ some (λ x. ok x && is x) xs
+unfolding some keep
+some-keep ok is [] = refl
+some-keep ok is (x ∷ xs) = go (ok x) (some-keep ok is xs)
+  where
+    go : (b : Bool) → some is (keep ok xs) ≡ some (λ x. ok x && is x) xs → some is (cond b (x ∷ keep ok xs) (keep ok xs)) ≡ (b && is x) || some (λ x. ok x && is x) xs
+    go true e = ap (λ (c : Bool). is x || c) e
+    go false e = e
+
+built-are : (is : Part → Bool) (at c : ℕ) (es : List Entry)
+    → some is (build (rangeAt (startsOf at es) (lensOf c es)) 0 19)
     ≡ some (λ t. is (part (fieldOf (λ e. e .start) t es) (fieldOf (λ e. e .len) t es))) tags || (is (part 0 8) || is (part at (dirLen c)))
-unfolding rangesOf rangeAt build startsOf lensOf column tags table some
-ranges-are is at c es = simp (or-false, or-assoc)
+unfolding rangeAt build startsOf lensOf column tags table some
+built-are is at c es = simp (or-false, or-assoc)
+
+-- tests that differ only where d is true
+some-either : (p q : ℕ → Bool) (d : Bool) (ts : List ℕ) → ((t : ℕ) → p t || d ≡ q t || d) → some p ts || d ≡ some q ts || d
+unfolding some
+some-either p q true ts h = rw (or-true (some p ts), or-true (some q ts))
+some-either p q false ts h = ap (λ (b : Bool). b || false) (same ts)
+  where
+    same : (ts : List ℕ) → some p ts ≡ some q ts
+    same [] = refl
+    same (t ∷ ts) = ap₂ (λ (a b : Bool). a || b) (sym (or-false (p t)) ∙ h t ∙ or-false (q t)) (same ts)
+
+-- the ranges of at most 4 bytes make no difference
+ranges-are : (a : Part) (at c : ℕ) (es : List Entry) → all (inner at (dirLen c)) es ≡ true
+    → some (shares a) (rangesOf (startsOf at es) (lensOf c es) 19)
+    ≡ some (λ t. shares a (part (fieldOf (λ e. e .start) t es) (fieldOf (λ e. e .len) t es))) tags || (shares a (part 0 8) || shares a (part at (dirLen c)))
+unfolding rangesOf wide
+ranges-are a at c es h =
+    some-keep wide (shares a) (build (rangeAt (startsOf at es) (lensOf c es)) 0 19)
+    ∙ built-are (λ x. wide x && shares a x) at c es
+    ∙ ap (λ (b : Bool). some (λ t. wide (Value t) && shares a (Value t)) tags || (shares a (part 0 8) || (b && shares a (part at (dirLen c))))) (lt-ltb 4 (dirLen c) (omega arith))
+    ∙ some-either (λ t. wide (Value t) && shares a (Value t)) (λ t. shares a (Value t)) Rest tags either
+  where
+    Value : ℕ → Part
+    Value t = part (fieldOf (λ e. e .start) t es) (fieldOf (λ e. e .len) t es)
+
+    Rest : Bool
+    Rest = shares a (part 0 8) || shares a (part at (dirLen c))
+
+    either : (t : ℕ) → (wide (Value t) && shares a (Value t)) || Rest ≡ shares a (Value t) || Rest
+    either t = go (wide (Value t)) (shares a (Value t)) refl refl
+      where
+        go : (u v : Bool) → wide (Value t) ≡ u → shares a (Value t) ≡ v → (u && v) || Rest ≡ v || Rest
+        go true v e f = refl
+        go false false e f = refl
+        go false true e f =
+            let d : shares a (part at (dirLen c)) ≡ true = short-inside a at (dirLen c) t es h e f in
+            rw (d, or-true (shares a (part 0 8)))
 
 all-build : (ok : Entry → Bool) (g : ℕ → Entry) (i k : ℕ) → ((j : ℕ) → ok (g j) ≡ true) → all ok (build g i k) ≡ true
 unfolding all build
 all-build ok g i zero h = refl
 all-build ok g i (suc k) h = rw (h i) (all-build ok g (suc i) k h)
+
+all-below : (ok : Entry → Bool) (g : ℕ → Entry) (c i k : ℕ) → i + k ≤ c → ((j : ℕ) → j < c → ok (g j) ≡ true) → all ok (build g i k) ≡ true
+unfolding all build
+all-below ok g c i zero l h = refl
+all-below ok g c i (suc k) l h = rw (h i (omega arith)) (all-below ok g c (suc i) k (omega arith) h)
 
 module _ (f : List ℕ) (big : Bool) (at c : ℕ) (dir : List ℕ) (kept6 : rule6 (entries big at c dir) ≡ kept) where
   abbrev Es : List Entry
@@ -186,6 +289,10 @@ module _ (f : List ℕ) (big : Bool) (at c : ℕ) (dir : List ℕ) (kept6 : rule
     unfolding entries
     all-untyped = all-build (untyped (shares a) (shares-none a)) (entryAt big at dir) 0 c typed-or-none
 
+    all-inner : all (inner at (dirLen c)) Es ≡ true
+    unfolding entries
+    all-inner = all-below (inner at (dirLen c)) (entryAt big at dir) c 0 c (omega arith) (entry-inner big at c dir)
+
     regroup : (h k d v : Bool) → k || d ≡ d → v || (h || d) ≡ h || (k || (d || v))
     regroup true k d v e = or-true v
     regroup false true d v e = let w : d ≡ true = sym e in rw w (or-true v)
@@ -196,7 +303,7 @@ module _ (f : List ℕ) (big : Bool) (at c : ℕ) (dir : List ℕ) (kept6 : rule
     pub columns-list : some (shares a) (rangesOf (startsOf at Es) (lensOf c Es) 19) ≡ some (shares a) (fullList table at c (map (hold table f) Es))
     unfolding rule6 fullList some
     columns-list =
-        ranges-are (shares a) at c Es
+        ranges-are a at c Es all-inner
         ∙ ap (λ (v : Bool). v || (shares a (part 0 8) || shares a (part at (dirLen c)))) (values-are (shares a) (shares-none a) Es kept6 all-untyped ∙ sym (some-values table (shares a) f Es))
         ∙ regroup (shares a (part 0 8)) (shares a (part at 2)) (shares a (part at (dirLen c))) _ (count-within (shares a) (shares-more a) at c)
 

@@ -2,20 +2,22 @@
 -- Assumes nothing.
 use Prim.Native.Nat.{ℕ, zero, suc, _+_, _*_, _≤_, _<_, zero-le, suc-le-suc}
 use mathlib.Core.Path.{_≡_, refl, sym, ap, ap₂, _∙_, subst}
-use mathlib.Core.Bool.{Bool, true, false, cond}
+use mathlib.Core.Bool.{Bool, true, false, cond, not, _||_, false≢true}
 use mathlib.Core.Logic.{_⊎_, inl, inr}
 use mathlib.Core.List.{List, [], _∷_, _++_}
+use native.Mathlib.Nat.{mul-le-mul}
 use native.Mathlib.Omega.{arith}
 use lib.Dec.{eqb, lit<}
 use lib.ListN.{length, getD, List·getD-append}
-use borrow.Author.Tests.{eq-eqb}
+use borrow.Author.Tests.{eq-eqb, eqb-true, le-ltb}
 use Rattle.order.specs.Width.{width}
-use Rattle.paper.specs.Bytes.{run}
+use Rattle.paper.specs.Bytes.{run, build}
+use Rattle.paper.specs.Tests.{keep}
 use Rattle.paper.specs.Outcome.{first, verdict}
 use Rattle.paper.specs.Layout.{dirLen, sizeOf}
 use Rattle.paper.specs.Tag
 use Rattle.paper.specs.Tags.{table, find, valueOf, bytesOf, countOf}
-use Rattle.paper.specs.Strips.{placesOf, strips, fullList, rule13, rule14}
+use Rattle.paper.specs.Strips.{Part as Range, part, placesOf, strips, fullList, rule13, rule14}
 use Rattle.paper.specs.Keys.{Runs, keyCount, keys, keyValue, keyRules}
 use Rattle.paper.specs.Ground.{Survey, georeference, corners}
 use Rattle.paper.specs.Judge.{View, runsOf, surveyOf, stripsOf, fullOf, groundRules}
@@ -24,18 +26,18 @@ use Rattle.layout.specs.Columns.{tags, column, startsOf, lensOf}
 use Rattle.tags.specs.Slots.{lineAt, tagAt}
 use Rattle.tags.specs.Tagging.{entriesAt, heldAt, viewOf, taggedOf, Ready}
 use Rattle.tags.proofs.Slots.{Slot, slot}
-use Rattle.tags.proofs.Rules.{Lined, needed-lined}
+use Rattle.tags.proofs.Rules.{Lined, lined, needed-lined}
 use Rattle.tags.proofs.Accepted.{Accepted, accepted, FixedColumn}
 use Rattle.keys.specs.Pass.{runs, keysJudged}
 use Rattle.keys.proofs.Judged as judged
 use Rattle.ground.specs.Answer.{Holds, Sized, groundJudged}
 use Rattle.ground.proofs.Taken as taken
-use Rattle.strips.specs.Gaps.{Low, rangesOf, placesJudged}
+use Rattle.strips.specs.Gaps.{Low, rangeAt, wide, rangesOf, placesJudged}
 use Rattle.paper.specs.declared.Verdict.{Verdict}
 use Rattle.keys.specs.declared.KeysJudged.{KeysJudged}
 use Rattle.ground.specs.declared.Ground.{Ground}
 use Rattle.judge.specs.Examining.{runOf, examinedIn, notExamined, examinedBy}
-use Rattle.judge.specs.Stages.{Passed, Fits, Placed, stripsJudged}
+use Rattle.judge.specs.Stages.{Passed, Fits, Placed, stripsJudged, outerOf}
 use Rattle.judge.specs.declared.Examined.{Examined}
 use Rattle.judge.specs.declared.Run.{Run}
 use Rattle.judge.proofs.Listed.{columns-judged}
@@ -156,6 +158,21 @@ module _ (f : List ℕ) (big : Bool) (at c : ℕ) (starts lens : List ℕ) (w l 
 
 -- ---- the strips
 
+-- a list without the ranges that do not count
+keep-out : (x : Range) (xs ys : List Range) → wide x ≡ false → keep wide ys ≡ keep wide xs → keep wide ys ≡ keep wide (x ∷ xs)
+unfolding keep
+keep-out x xs ys h e = rw h e
+
+keep-both : (x : Range) (xs ys : List Range) → keep wide ys ≡ keep wide xs → keep wide (x ∷ ys) ≡ keep wide (x ∷ xs)
+unfolding keep
+keep-both x xs ys e = ap (λ (zs : List Range). cond (wide x) (x ∷ zs) zs) e
+
+outer-kept : (ps : ℕ → Range) → wide (ps 0) ≡ false → wide (ps 1) ≡ false → wide (ps 3) ≡ false → wide (ps 4) ≡ false → wide (ps 6) ≡ false → wide (ps 7) ≡ false → wide (ps 9) ≡ false
+    → keep wide (ps 2 ∷ ps 5 ∷ ps 8 ∷ ps 10 ∷ ps 11 ∷ ps 12 ∷ ps 13 ∷ ps 14 ∷ ps 15 ∷ ps 16 ∷ ps 17 ∷ ps 18 ∷ [])
+    ≡ keep wide (ps 0 ∷ ps 1 ∷ ps 2 ∷ ps 3 ∷ ps 4 ∷ ps 5 ∷ ps 6 ∷ ps 7 ∷ ps 8 ∷ ps 9 ∷ ps 10 ∷ ps 11 ∷ ps 12 ∷ ps 13 ∷ ps 14 ∷ ps 15 ∷ ps 16 ∷ ps 17 ∷ ps 18 ∷ [])
+outer-kept ps h0 h1 h3 h4 h6 h7 h9 =
+    keep-out (ps 0) _ _ h0 (keep-out (ps 1) _ _ h1 (keep-both (ps 2) _ _ (keep-out (ps 3) _ _ h3 (keep-out (ps 4) _ _ h4 (keep-both (ps 5) _ _ (keep-out (ps 6) _ _ h6 (keep-out (ps 7) _ _ h7 (keep-both (ps 8) _ _ (keep-out (ps 9) _ _ h9 (keep-both (ps 10) _ _ (keep-both (ps 11) _ _ (keep-both (ps 12) _ _ (keep-both (ps 13) _ _ (keep-both (ps 14) _ _ (keep-both (ps 15) _ _ (keep-both (ps 16) _ _ (keep-both (ps 17) _ _ (keep-both (ps 18) _ _ refl))))))))))))))))))
+
 -- two lists of low numbers, one after the other
 low-parts : (xs ys zs : List ℕ) → zs ≡ xs ++ ys → ((k : ℕ) → k < length xs → getD zs k 0 < 68719476736) → Low ys → Low zs
 low-parts xs ys zs e h t i = subst (λ (l : List ℕ). getD l i 0 < 68719476736) (sym e) (go xs i front)
@@ -203,14 +220,69 @@ module _ (f : List ℕ) (big : Bool) (at c : ℕ) (typs counts starts lens : Lis
       let b : width (eqb (getD typs 8 0) 4) ≡ sizeOf (find 279 (heldAt f big at c) .entry .typ) = sym (s .wide) ∙ ap sizeOf (sym (s .slot .typ)) in
       λ i. placesOf big (a i) (sym (o .slot .bytes) i) (b i) (sym (s .slot .bytes) i) (sym (o .slot .count) i)
 
+  -- a tag with one SHORT or LONG has its value in its entry
+  short-slot : (k : ℕ) → k < 17 → sizeOf (lineAt k .type) ≤ 4 → sizeOf (lineAt k .other) ≤ 4 → lineAt k .most ≡ 1 → getD lens k 0 ≤ 4
+  short-slot k h a b m = go (eqb (getD starts k 0) 0) refl
+    where
+      Here : Slot f (heldAt f big at c) typs counts starts lens (tagAt k) k
+      Here = slot f big at c typs counts starts lens (p .passed .ready) k h
+
+      go : (t : Bool) → eqb (getD starts k 0) 0 ≡ t → getD lens k 0 ≤ 4
+      go true e = let z = Here .none (eqb-true _ _ e) in omega arith
+      go false e =
+          let l = lined (heldAt f big at c) (told .ten) k h (Here .present ∙ ap not e) in
+          let n : getD counts k 0 ≤ 1 = let x = l .high in let y = Here .count in omega arith in
+          let w : sizeOf (getD typs k 0) ≤ 4 = subst (λ (x : ℕ). sizeOf x ≤ 4) (Here .typ) (kind (l .kind)) in
+          let u = mul-le-mul {n₁ = sizeOf (getD typs k 0)} {m₁ = getD counts k 0} {n₂ = 4} {m₂ = 1} w n in
+          let v = Here .size in
+          omega arith
+        where
+          kind : eqb (find (tagAt k) (heldAt f big at c) .entry .typ) (lineAt k .type) || eqb (find (tagAt k) (heldAt f big at c) .entry .typ) (lineAt k .other) ≡ true
+              → sizeOf (find (tagAt k) (heldAt f big at c) .entry .typ) ≤ 4
+          kind o = pick _ _ o refl refl
+            where
+              pick : (x y : Bool) → x || y ≡ true → eqb (find (tagAt k) (heldAt f big at c) .entry .typ) (lineAt k .type) ≡ x
+                  → eqb (find (tagAt k) (heldAt f big at c) .entry .typ) (lineAt k .other) ≡ y → sizeOf (find (tagAt k) (heldAt f big at c) .entry .typ) ≤ 4
+              pick true y z q r = subst (λ (x : ℕ). sizeOf x ≤ 4) (sym (eqb-true _ _ q)) a
+              pick false true z q r = subst (λ (x : ℕ). sizeOf x ≤ 4) (sym (eqb-true _ _ r)) b
+              pick false false z q r = absurd (false≢true z)
+
+  -- so the ranges that count are among the outer ones
+  short-range : (k : ℕ) → getD lens k 0 ≤ 4 → wide (part (getD starts k 0) (getD lens k 0)) ≡ false
+  unfolding wide
+  short-range k h = le-ltb 4 (getD lens k 0) h
+
+  outer-ranges : rangesOf (outerOf starts) (outerOf lens) 12 ≡ rangesOf starts lens 19
+  unfolding rangesOf rangeAt build outerOf lineAt tagAt table sizeOf
+  outer-ranges =
+      outer-kept (λ k. part (getD starts k 0) (getD lens k 0))
+      (short-range 0 (short-slot 0 (lit< tt) (omega arith) (omega arith) refl))
+      (short-range 1 (short-slot 1 (lit< tt) (omega arith) (omega arith) refl))
+      (short-range 3 (short-slot 3 (lit< tt) (omega arith) (omega arith) refl))
+      (short-range 4 (short-slot 4 (lit< tt) (omega arith) (omega arith) refl))
+      (short-range 6 (short-slot 6 (lit< tt) (omega arith) (omega arith) refl))
+      (short-range 7 (short-slot 7 (lit< tt) (omega arith) (omega arith) refl))
+      (short-range 9 (short-slot 9 (lit< tt) (omega arith) (omega arith) refl))
+
+  -- the size of the file
+  pub file-eight : 8 ≤ length f
+  file-eight =
+      let l = p .passed .ready .low in
+      let w = p .passed .ready .whole in
+      omega arith
+
+  pub file-size : length f ≤ 4294967295
+  file-size = p .passed .ready .size
+
   -- what the pass over the places answered, of the view
   pub strips-seen : (v : Verdict)
-      → v ≡ placesJudged (length f) (rangesOf starts lens 19) (placesOf big (width (eqb (getD typs 5 0) 4)) (Piece 5) (width (eqb (getD typs 8 0) 4)) (Piece 8) (getD counts 5 0))
+      → v ≡ placesJudged (length f) (rangesOf (outerOf starts) (outerOf lens) 12) (placesOf big (width (eqb (getD typs 5 0) 4)) (Piece 5) (width (eqb (getD typs 8 0) 4)) (Piece 8) (getD counts 5 0))
       → v ≡ stripsJudged Looked
   unfolding stripsJudged fullOf viewOf entriesAt heldAt
   strips-seen v e =
       let r = p .passed .ready in
       e
+      ∙ ap (λ (ps : List Range). placesJudged (length f) ps (placesOf big (width (eqb (getD typs 5 0) 4)) (Piece 5) (width (eqb (getD typs 8 0) 4)) (Piece 8) (getD counts 5 0))) outer-ranges
       ∙ (λ i. placesJudged (length f) (rangesOf (r .starts-are i) (r .lens-are i) 19) (places-are i))
       ∙ columns-judged f big at c (run f at (dirLen c)) (p .passed .six) (length f) (stripsOf Looked)
 
@@ -236,3 +308,24 @@ module _ (f : List ℕ) (big : Bool) (at c : ℕ) (typs counts starts lens : Lis
       rest zero = lit< tt
       rest (suc zero) = let w = p .passed .ready .few in omega arith
       rest (suc (suc k)) = lit< tt
+
+-- the outer part of a column of low numbers
+pub outer-low : (xs : List ℕ) → Low xs → Low (outerOf xs)
+unfolding outerOf
+outer-low xs h zero = h 2
+outer-low xs h (suc zero) = h 5
+outer-low xs h (suc (suc zero)) = h 8
+outer-low xs h (suc (suc (suc zero))) = h 10
+outer-low xs h (suc (suc (suc (suc zero)))) = h 11
+outer-low xs h (suc (suc (suc (suc (suc zero))))) = h 12
+outer-low xs h (suc (suc (suc (suc (suc (suc zero)))))) = h 13
+outer-low xs h (suc (suc (suc (suc (suc (suc (suc zero))))))) = h 14
+outer-low xs h (suc (suc (suc (suc (suc (suc (suc (suc zero)))))))) = h 15
+outer-low xs h (suc (suc (suc (suc (suc (suc (suc (suc (suc zero))))))))) = h 16
+outer-low xs h (suc (suc (suc (suc (suc (suc (suc (suc (suc (suc zero)))))))))) = h 17
+outer-low xs h (suc (suc (suc (suc (suc (suc (suc (suc (suc (suc (suc zero))))))))))) = h 18
+outer-low xs h (suc (suc (suc (suc (suc (suc (suc (suc (suc (suc (suc (suc k)))))))))))) = lit< tt
+
+pub outer-length : (xs : List ℕ) → 12 ≤ length (outerOf xs)
+unfolding outerOf
+outer-length xs = omega arith

@@ -3,6 +3,7 @@ use Prim.Native.Nat.{ℕ}
 use mathlib.Core.Path.{_≡_}
 use mathlib.Core.Bool.{Bool}
 use mathlib.Core.List.{List, [], _∷_}
+use lib.ListN.{getD}
 use Rattle.paper.specs.Outcome.{first, _▸_}
 use Rattle.paper.specs.Layout.{rule6}
 use Rattle.paper.specs.Tag
@@ -35,3 +36,20 @@ pub record Placed (f : List ℕ) (big : Bool) (at c : ℕ) (starts lens : List �
   pub fourteen : stripsJudged (viewOf f big at c) .number ≡ 0
   pub wide : width ≡ valueOf big Tag.width (heldAt f big at c)
   pub long : length ≡ valueOf big Tag.length (heldAt f big at c)
+
+-- of a column of the table, the head and the directory: all but the tags with one SHORT or LONG, whose values stand in their entries
+unfoldable pub outerOf : List ℕ → List ℕ
+outerOf xs =
+    getD xs 2 0
+    ∷ getD xs 5 0
+    ∷ getD xs 8 0
+    ∷ getD xs 10 0
+    ∷ getD xs 11 0
+    ∷ getD xs 12 0
+    ∷ getD xs 13 0
+    ∷ getD xs 14 0
+    ∷ getD xs 15 0
+    ∷ getD xs 16 0
+    ∷ getD xs 17 0
+    ∷ getD xs 18 0
+    ∷ []

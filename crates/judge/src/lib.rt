@@ -1,12 +1,14 @@
 // The whole judgement of a file, rules 1 to 22: the layers below, one after the other, each on the part of the file that it may read.
 ghost use mathlib.Core.Path.{_≡_};
+ghost use Prim.Native.Nat.{_<_};
+ghost use lib.ListN.{getD};
 ghost use Rattle.paper.specs.Judge.{verdictOf};
 ghost use Rattle.paper.specs.Calls.{judgedOf};
 ghost use Rattle.layout.specs.Opening.{openedOf};
 ghost use Rattle.layout.specs.declared.Opened.the-variants.{Laid};
 ghost use Rattle.tags.specs.Tagging.{viewOf};
 ghost use Rattle.judge.specs.Examining.{notExamined, examinedOf, examinedBy};
-ghost use Rattle.judge.specs.Stages.{Passed, Fits, Placed, stripsJudged};
+ghost use Rattle.judge.specs.Stages.{Passed, Fits, Placed, stripsJudged, outerOf};
 use paper::Corners;
 use paper::Georeference;
 use paper::Judged;
@@ -60,6 +62,17 @@ fn refused(verdict: Verdict) -> Examined
     }
 }
 
+// The run of slot k of the columns.
+fn run_at(starts: &[usize; 19], lens: &[usize; 19], k: usize) -> Run
+    requires { ⌜ k < 19 ⌝ }
+    ensures { λ r. ⌜ r ≡ record { start = getD (now (starts .entry)) k 0; len = getD (now (lens .entry)) k 0 } ⌝ }
+{
+    Run {
+        start: starts[k],
+        len: lens[k],
+    }
+}
+
 // Rules 15 to 22, over the runs of the keys and of the ground.
 fn judge_runs(
     file: &[u8],
@@ -101,23 +114,31 @@ fn judge_runs(
             corners,
         },
         big,
-        directory: Run {
-            start: starts[13],
-            len: lens[13],
-        },
-        doubles: Run {
-            start: starts[14],
-            len: lens[14],
-        },
-        characters: Run {
-            start: starts[15],
-            len: lens[15],
-        },
-        metadata: Run {
-            start: starts[16],
-            len: lens[16],
-        },
+        directory: run_at(starts, lens, 13),
+        doubles: run_at(starts, lens, 14),
+        characters: run_at(starts, lens, 15),
+        metadata: run_at(starts, lens, 16),
     }
+}
+
+// The part of a column whose ranges may lie outside their entries: the tags with one SHORT or LONG are left out.
+fn outer(column: &[usize; 19]) -> [usize; 12]
+    ensures { λ r. ⌜ r ≡ outerOf (now (column .entry)) ⌝ }
+{
+    [
+        column[2],
+        column[5],
+        column[8],
+        column[10],
+        column[11],
+        column[12],
+        column[13],
+        column[14],
+        column[15],
+        column[16],
+        column[17],
+        column[18],
+    ]
 }
 
 // Rules 13 and 14, over the runs of the strips' offsets and byte counts.
@@ -136,6 +157,8 @@ fn judge_strips(
 {
     let offsets = layout::value(file, starts[5], lens[5]);
     let sizes = layout::value(file, starts[8], lens[8]);
+    let outerstarts = outer(starts);
+    let outerlens = outer(lens);
     strips::judge_places(
         offsets,
         typs[5] == 4,
@@ -144,9 +167,9 @@ fn judge_strips(
         big,
         counts[5],
         file.len(),
-        starts,
-        lens,
-        19,
+        &outerstarts,
+        &outerlens,
+        12,
     )
 }
 
@@ -190,7 +213,11 @@ fn judge_laid(file: &[u8], big: bool, at: usize, c: usize) -> Examined
     starts[18] = at;
     lens[17] = 8;
     lens[18] = len;
+    let cells = layout::CELLS;
+    let slots = layout::SLOTS;
     let v = layout::scan(
+        &cells,
+        &slots,
         &file[at..end],
         big,
         at,

@@ -47,7 +47,7 @@ module _ (s : Starts) (i : ℕ) (e e′ : KeyEntry) (same : e ≡ e′) (k : ℕ
 -- ---- where rule 17 is kept
 
 -- a value that is not in its entry lies within the tag that its location names
-placed-within : (r : Runs) (e : KeyEntry) (k : ℕ) → rightPlace r e k ≡ true → (e .location ≡ 0 → ⊥) → within r e ≡ true
+pub placed-within : (r : Runs) (e : KeyEntry) (k : ℕ) → rightPlace r e k ≡ true → (e .location ≡ 0 → ⊥) → within r e ≡ true
 unfolding rightPlace
 placed-within r e k h out = go (eqb k 0) (eqb k 1) (eqb k 2) h
   where

@@ -1,6 +1,6 @@
 -- One turn of the pass over the key entries, from the last to the first: what is known of the entries from i on, and what one entry more in
 -- front makes of it. Assumes nothing.
-use Prim.Native.Nat.{ℕ, _+_, _-_, _<_, _≤_}
+use Prim.Native.Nat.{ℕ, suc, _+_, _-_, _<_, _≤_}
 use mathlib.Core.Path.{_≡_, refl, sym, ap, _∙_}
 use mathlib.Core.Bool.{Bool, true, false, cond, not}
 use mathlib.Core.List.{List, [], _∷_, map}
@@ -9,16 +9,16 @@ use native.Mathlib.Nat.{sub-zero}
 use lib.Dec.{eqb, leb}
 use lib.ListN.{length, set}
 use lib.Seq.{set-out}
-use borrow.Author.Tests.{lt-ltb, le-ltb, lt-leb, leb-true, leb-false}
+use borrow.Author.Tests.{lt-ltb, le-ltb, lt-leb, leb-true, leb-false, eqb-true, ne-eqb}
 use Rattle.paper.specs.Bytes.{build}
 use Rattle.paper.specs.Outcome.{ascending, ascendingFrom, firstBad, first}
 use Rattle.paper.specs.Tests.{all}
 use Rattle.paper.specs.Key
-use Rattle.paper.specs.Keys.{Runs, short, keyAt, room, rightPlace, misplaced, rule16, rule17, keyValue}
+use Rattle.paper.specs.Keys.{Runs, SHORT, knownKeys, kindIn, kindOf, short, keyAt, room, rightPlace, misplaced, rule16, rule17, keyValue}
 use Rattle.paper.specs.declared.KeyEntry.{KeyEntry}
 use Rattle.paper.specs.declared.Outcome.{Outcome}
 use Rattle.paper.specs.declared.Outcome.the-variants.{Kept as kept, Broken as broken}
-use Rattle.paper.proofs.Laws.{build-step}
+use Rattle.paper.proofs.Laws.{build-step, and-eq}
 use Rattle.paper.proofs.Loops.{build-end}
 use Rattle.keys.specs.Pass.{runs, judged, entryRules, entriesJudged, none, nextKey, held, askedKeys, finished}
 use Rattle.paper.specs.Tests.{indexOf}
@@ -108,6 +108,24 @@ pub misplaced-any : (big : Bool) (d x t : List ℕ) (e : KeyEntry) → misplaced
 unfolding misplaced rightPlace room
 misplaced-any big d x t e = refl
 
+-- as code tests it, from the kind
+pub misplaced-by : (r : Runs) (e : KeyEntry) (k : ℕ) (p : Bool) → p ≡ rightPlace r e k → k ≡ kindOf (e .key) → not p ≡ misplaced r e
+unfolding misplaced
+misplaced-by r e k p h q = ap not (h ∙ ap (rightPlace r e) q)
+
+-- a key that is asked for has kind SHORT
+index-out : (k : ℕ) (ks : List ℕ) → all (λ a. eqb (kindOf a) SHORT) ks ≡ true → (kindOf k ≡ SHORT → ⊥) → indexOf k ks ≡ length ks
+unfolding indexOf all
+index-out k [] h n = refl
+index-out k (a ∷ ks) h n =
+    let b = and-eq (eqb (kindOf a) SHORT) _ h in
+    let m : k ≡ a → ⊥ = λ e. n (ap kindOf e ∙ eqb-true _ _ (b .0)) in
+    rw (ne-eqb k a m) (ap suc (index-out k ks (b .1) n))
+
+pub asked-short : (k : ℕ) → (kindOf k ≡ SHORT → ⊥) → 7 ≤ indexOf k askedKeys
+unfolding all kindOf kindIn knownKeys
+asked-short k n = let e : indexOf k askedKeys ≡ 7 = index-out k askedKeys refl n in omega arith
+
 -- ---- the loop: before its first turn, one turn, and after its last
 
 pub seen-start : (r : Runs) (c : ℕ) → Seen r (rest r c c) kept kept none (none ∷ none ∷ none ∷ none ∷ none ∷ none ∷ none ∷ [])
@@ -128,6 +146,9 @@ module _ (big : Bool) (d x t : List ℕ) (c h : ℕ) (a b a′ b′ : Outcome) (
   turn-out q =
       let o : 7 ≤ indexOf (e .key) askedKeys = rw is-s at q in
       rw (rest-step big d x t c h e some few is-e, is-a, is-b′) (seen-out (runs big d x t) (rest (runs big d x t) c h) a b n f seen e low low′ o)
+
+pub none-left : (i : ℕ) → i ≤ 0 → i ≡ 0
+none-left i h = omega arith
 
 pub pass-done : (r : Runs) (c i : ℕ) (a b : Outcome) (n : ℕ) (f : List ℕ) → i ≡ 0 → Seen r (rest r c i) a b n f → finished a b f c ≡ entriesJudged r c
 unfolding entriesJudged

@@ -13,7 +13,7 @@ ghost use lib.ListN.{length};
 ghost use Rattle.paper.specs.Outcome.{orElse};
 ghost use Rattle.paper.specs.declared.Outcome.the-variants.{Broken as broken};
 ghost use Rattle.paper.specs.Tests.{just};
-ghost use Rattle.paper.specs.Keys.{kindOf, rule15, keyAt, room, inEntry, rightPlace, misplaced};
+ghost use Rattle.paper.specs.Keys.{kindOf, rule15, keyAt, room, inEntry, rightPlace};
 ghost use Rattle.paper.specs.Calls.{rowOf};
 ghost use Rattle.keys.specs.Rows.{startsIn};
 ghost use Rattle.keys.specs.Table.{keyNumbers, keyKinds, slotOf};
@@ -36,11 +36,11 @@ pub struct Starts {
 }
 
 // Where a value may stand outside its entry: in the key directory, the doubles or the characters.
-const DIRECTORY: usize = 34735;
+pub const DIRECTORY: usize = 34735;
 
-const DOUBLES: usize = 34736;
+pub const DOUBLES: usize = 34736;
 
-const CHARACTERS: usize = 34737;
+pub const CHARACTERS: usize = 34737;
 
 // Above every SHORT: the number of a key that is absent, and the next key after the last.
 const NONE: usize = 65536;
@@ -197,6 +197,20 @@ pub fn kind(key: usize) -> u32
     kind_in(&keys, &kinds, key)
 }
 
+// The known keys of the table, for a caller that asks for many kinds.
+pub fn table_keys() -> [u16; 45]
+    ensures { λ r. ⌜ r ≡ keyNumbers ⌝ }
+{
+    KEYS
+}
+
+// Their kinds.
+pub fn table_kinds() -> [u8; 45]
+    ensures { λ r. ⌜ r ≡ keyKinds ⌝ }
+{
+    KINDS
+}
+
 // ---- rule 15
 
 // Rule 15: the header's four numbers, and room for K entries.
@@ -221,7 +235,7 @@ fn header(big: bool, directory: &[u8]) -> Outcome
 // ---- one key entry
 
 // Key entry i, counted from 0.
-fn entry_at(directory: &[u8], big: bool, i: usize) -> KeyEntry
+pub fn entry_at(directory: &[u8], big: bool, i: usize) -> KeyEntry
     requires { ⌜ (i < 256) × (8 * i + 16 ≤ length (now directory)) ⌝ }
     ensures { λ r. ⌜ (r ≡ keyAt (runs big (now (directory .entry)) [] []) i) × (r .key < 65536) × (r .location < 65536) × (r .count < 65536) × (r .index < 65536) ⌝ }
 {
@@ -265,13 +279,16 @@ fn is_within(e: KeyEntry, room: usize) -> bool
     (1 <= e.count) & (e.index + e.count <= room)
 }
 
-// Whether location, count and value index are as the kind asks.
+// Whether location, count and value index are as the kind asks. Most keys have their number in the entry.
 fn is_placed(directory: &[u8], doubles: &[u8], characters: &[u8], e: KeyEntry, kind: u32) -> bool
     requires { ⌜ (e .count < 65536) × (e .index < 65536) ⌝ }
     ensures { λ r. ⌜ r ≡ rightPlace (runs false (now (directory .entry)) (now (doubles .entry)) (now (characters .entry))) e kind ⌝ }
 {
+    if is_in_entry(e) {
+        return (kind != 1) & (kind != 2);
+    }
     if kind == 0 {
-        return is_in_entry(e);
+        return false;
     }
     let room = room_of(directory, doubles, characters, e.location);
     let within = is_within(e, room);
@@ -279,7 +296,7 @@ fn is_placed(directory: &[u8], doubles: &[u8], characters: &[u8], e: KeyEntry, k
         return (e.location == DOUBLES) & ((e.count == 1) & within);
     }
     if kind != 2 {
-        return is_in_entry(e) | within;
+        return within;
     }
     if e.location != CHARACTERS {
         return false;
@@ -288,22 +305,6 @@ fn is_placed(directory: &[u8], doubles: &[u8], characters: &[u8], e: KeyEntry, k
         return false;
     }
     characters[e.index + e.count - 1] == b'|'
-}
-
-// Whether a key entry breaks rule 17.
-fn is_misplaced(
-    keys: &[u16; 45],
-    kinds: &[u8; 45],
-    directory: &[u8],
-    doubles: &[u8],
-    characters: &[u8],
-    e: KeyEntry,
-) -> bool
-    requires { ⌜ (now keys ≡ keyNumbers) × (now kinds ≡ keyKinds) × (e .count < 65536) × (e .index < 65536) ⌝ }
-    ensures { λ r. ⌜ r ≡ misplaced (runs false (now (directory .entry)) (now (doubles .entry)) (now (characters .entry))) e ⌝ }
-{
-    let kind = kind_in(keys, kinds, e.key);
-    !is_placed(directory, doubles, characters, e, kind)
 }
 
 // Where a key stands among those that rules 18 and 19 ask for; 7 for any other.
@@ -480,7 +481,8 @@ fn finish(sixteen: Outcome, seventeen: Outcome, found: &[usize; 7], count: usize
     answer(verdict, count, found[1] == 2)
 }
 
-// Rules 16 to 19: one pass over the key entries, from the last to the first, so that the first entry of a key is the one that stays.
+// Rules 16 to 19: one pass over the key entries, from the last to the first, so that the first entry of a key is the one that stays. Each byte order
+// has a loop of its own, so that it is not asked for at every number.
 fn judge_entries(
     keys: &[u16; 45],
     kinds: &[u8; 45],
@@ -498,16 +500,37 @@ fn judge_entries(
     let mut next = NONE;
     let mut found = [NONE; 7];
     let mut i = count;
-    while 0 < i {
-        i -= 1;
-        let e = entry_at(directory, big, i);
-        sixteen = broken_or(next <= e.key, next, sixteen);
-        next = e.key;
-        let wrong = is_misplaced(keys, kinds, directory, doubles, characters, e);
-        seventeen = broken_or(wrong, e.key, seventeen);
-        let at = asked(e.key);
-        if at < 7 {
-            found[at] = e.index;
+    if big {
+        while 0 < i {
+            i -= 1;
+            let e = entry_at(directory, true, i);
+            sixteen = broken_or(next <= e.key, next, sixteen);
+            next = e.key;
+            let kind = kind_in(keys, kinds, e.key);
+            let placed = is_placed(directory, doubles, characters, e, kind);
+            seventeen = broken_or(!placed, e.key, seventeen);
+            if kind == 0 {
+                let at = asked(e.key);
+                if at < 7 {
+                    found[at] = e.index;
+                }
+            }
+        }
+    } else {
+        while 0 < i {
+            i -= 1;
+            let e = entry_at(directory, false, i);
+            sixteen = broken_or(next <= e.key, next, sixteen);
+            next = e.key;
+            let kind = kind_in(keys, kinds, e.key);
+            let placed = is_placed(directory, doubles, characters, e, kind);
+            seventeen = broken_or(!placed, e.key, seventeen);
+            if kind == 0 {
+                let at = asked(e.key);
+                if at < 7 {
+                    found[at] = e.index;
+                }
+            }
         }
     }
     finish(sixteen, seventeen, &found, count)

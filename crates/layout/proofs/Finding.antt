@@ -9,7 +9,7 @@ use native.Mathlib.Omega.{arith}
 use native.Mathlib.Numerals.{add-one}
 use lib.Dec.{eqb, leb, ltb}
 use lib.ListN.{length, getD, set}
-use borrow.Author.Tests.{eqb-true, ne-eqb, not-true, lt-leb, le-ltb}
+use borrow.Author.Tests.{eqb-true, eqb-false, eq-eqb, ne-eqb, not-true, ltb-true}
 use Rattle.paper.specs.Bytes.{build}
 use Rattle.paper.specs.Layout.{entryAt, entries}
 use Rattle.paper.specs.Tags.{absent, table}
@@ -18,7 +18,7 @@ use Rattle.paper.specs.Tests.{all}
 use Rattle.paper.proofs.Laws.{and-eq}
 use Rattle.paper.proofs.Store.{distinct}
 use Rattle.paper.specs.Tags.{findEntry}
-use Rattle.layout.specs.Finding.{highSlots, highTag, placeFrom, placeIn, places, foundOf}
+use Rattle.layout.specs.Finding.{cellOf, cellTags, cellSlots, inCell, placeFrom, placeIn, places, foundOf}
 use Rattle.paper.specs.Tests.{indexOf}
 use Rattle.layout.specs.Columns.{tags}
 
@@ -108,40 +108,60 @@ none-passes ok (t ∷ ts) x h n = go (eqb x t) refl (none-passes ok ts x (and-eq
     go true e r = absurd (false≢true (sym n ∙ ap ok (eqb-true x t e) ∙ and-eq (ok t) _ h .0))
     go false e r = rw e (ap suc r)
 
-pub slot-below : (t : ℕ) → t < 256 → 17 ≡ indexOf t tags
-unfolding tags table all
-slot-below t h = sym (none-passes (λ (x : ℕ). leb 256 x) tags t refl (lt-leb 256 t h))
-
--- a tag above 284 stands where its last four bits say
-stands : ℕ → Bool
-stands t = ltb t 285 || eqb (highTag (getD highSlots (t % 16) 17)) t
-
-all-stand : all stands tags ≡ true
-unfolding all stands highSlots highTag tags table
+-- each tag of the table stands in its cell
+all-stand : all inCell tags ≡ true
+unfolding all inCell cellOf cellTags tags table
 all-stand = refl
 
-pub slot-none : (t k : ℕ) → 285 ≤ t → k ≡ getD highSlots (t % 16) 17 → (highTag k ≡ t → ⊥) → 17 ≡ indexOf t tags
-unfolding stands tags table
-slot-none t k l e n =
-    let b : eqb (highTag (getD highSlots (t % 16) 17)) t ≡ false = ap (λ (j : ℕ). eqb (highTag j) t) (sym e) ∙ ne-eqb (highTag k) t n in
-    sym (none-passes stands tags t all-stand (rw (le-ltb t 285 l) b))
+pub cell-none : (t : ℕ) → inCell t ≡ false → 17 ≡ indexOf t tags
+unfolding tags table
+cell-none t h = sym (none-passes inCell tags t all-stand h)
 
--- each index is its tag's
-own : (k : ℕ) → (highTag k ≡ 65536) ⊎ (indexOf (highTag k) tags ≡ k)
-unfolding highTag indexOf tags table
-own k = go (eqb k 10) (eqb k 11) (eqb k 12) (eqb k 13) (eqb k 14) (eqb k 15) (eqb k 16) refl refl refl refl refl refl refl
+-- a test that passes for each number below n
+passes : (ℕ → Bool) → ℕ → Bool
+passes ok zero = true
+passes ok (suc n) = ok n && passes ok n
+
+passes-at : (ok : ℕ → Bool) (n : ℕ) → passes ok n ≡ true → (c : ℕ) → c < n → ok c ≡ true
+unfolding passes
+passes-at ok zero h c l = absurd (not-suc-le-zero l)
+passes-at ok (suc n) h c l = go (eqb c n) refl (passes-at ok n (and-eq (ok n) _ h .1) c)
   where
-    go : (a b c d e f g : Bool) → eqb k 10 ≡ a → eqb k 11 ≡ b → eqb k 12 ≡ c → eqb k 13 ≡ d → eqb k 14 ≡ e → eqb k 15 ≡ f → eqb k 16 ≡ g
-        → (highTag k ≡ 65536) ⊎ (indexOf (highTag k) tags ≡ k)
-    go true b c d e f g p q r s t u v = let z : k ≡ 10 = eqb-true k 10 p in rw z (inr refl)
-    go false true c d e f g p q r s t u v = let z : k ≡ 11 = eqb-true k 11 q in rw z (inr refl)
-    go false false true d e f g p q r s t u v = let z : k ≡ 12 = eqb-true k 12 r in rw z (inr refl)
-    go false false false true e f g p q r s t u v = let z : k ≡ 13 = eqb-true k 13 s in rw z (inr refl)
-    go false false false false true f g p q r s t u v = let z : k ≡ 14 = eqb-true k 14 t in rw z (inr refl)
-    go false false false false false true g p q r s t u v = let z : k ≡ 15 = eqb-true k 15 u in rw z (inr refl)
-    go false false false false false false true p q r s t u v = let z : k ≡ 16 = eqb-true k 16 v in rw z (inr refl)
-    go false false false false false false false p q r s t u v = inl (rw (p, q, r, s, t, u, v))
+    go : (b : Bool) → eqb c n ≡ b → (c < n → ok c ≡ true) → ok c ≡ true
+    go true e r = ap ok (eqb-true c n e) ∙ and-eq (ok n) _ h .0
+    go false e r = let w : c ≡ n → ⊥ = eqb-false c n e in r (omega arith)
 
-pub slot-found : (t k : ℕ) → t < 65536 → highTag k ≡ t → k ≡ indexOf t tags
-slot-found t k l h =
-    ⊎-elim (λ z. absurd (lt-irrefl t (subst (λ (n : ℕ). t < n) (sym z ∙ h) l))) (λ z. sym z ∙ ap (λ (x : ℕ). indexOf x tags) h) (own k)
+-- a cell holds a tag of the table, with its index, or one of another cell
+right : ℕ → Bool
+right c =
+    not (eqb (cellOf (getD cellTags c 0)) c)
+    || (ltb (getD cellSlots c 0) 17 && eqb (getD cellSlots c 0) (indexOf (getD cellTags c 0) tags))
+
+all-right : passes right 32 ≡ true
+unfolding passes right cellOf cellTags cellSlots indexOf tags table
+all-right = refl
+
+cell-low : (t : ℕ) → cellOf t < 32
+unfolding cellOf
+cell-low t = omega arith
+
+pub cell-found : (t : ℕ) → inCell t ≡ true → (getD cellSlots (cellOf t) 0 ≡ indexOf t tags) × (getD cellSlots (cellOf t) 0 < 17)
+unfolding inCell right
+cell-found t h =
+    let e : getD cellTags (cellOf t) 0 ≡ t = eqb-true _ _ h in
+    let r : right (cellOf t) ≡ true = passes-at right 32 all-right (cellOf t) (cell-low t) in
+    here e r
+  where
+    after : (b c : Bool) → b ≡ true → not b || c ≡ true → c ≡ true
+    after true c k r = r
+    after false c k r = absurd (false≢true k)
+
+    rest : eqb (cellOf (getD cellTags (cellOf t) 0)) (cellOf t) ≡ true → right (cellOf t) ≡ true
+        → ltb (getD cellSlots (cellOf t) 0) 17 && eqb (getD cellSlots (cellOf t) 0) (indexOf (getD cellTags (cellOf t) 0) tags) ≡ true
+    rest k r = after _ _ k r
+
+    here : getD cellTags (cellOf t) 0 ≡ t → right (cellOf t) ≡ true → (getD cellSlots (cellOf t) 0 ≡ indexOf t tags) × (getD cellSlots (cellOf t) 0 < 17)
+    here e r =
+        let own : cellOf (getD cellTags (cellOf t) 0) ≡ cellOf t = ap cellOf e in
+        let both = and-eq (ltb (getD cellSlots (cellOf t) 0) 17) _ (rest (eq-eqb _ _ own) r) in
+        (eqb-true _ _ (both .1) ∙ ap (λ (x : ℕ). indexOf x tags) e, ltb-true _ _ (both .0))

@@ -16,7 +16,7 @@ use Rattle.paper.specs.declared.Verdict.{Verdict}
 use Rattle.paper.specs.Layout.{odd, isBig, dirAt, dirLen, entries, rule1, rule2, rule3, rule4, rule5}
 use Rattle.paper.specs.Tests.{all}
 use Rattle.paper.specs.Judge.{Head, headOf, headRules, countRules, dirRules, headRun, headIn, countRun, countIn, dirRun, entriesIn, headStage, countStage, dirStage, viewStage, view, verdictOf}
-use Rattle.paper.proofs.Laws.{num-run, or-false, breaks-kept}
+use Rattle.paper.proofs.Laws.{num-run, run-length-in, or-false, breaks-kept}
 use Rattle.paper.proofs.Bounds.{rule4-gives, rule5-gives}
 use Rattle.paper.proofs.First.{kept-first, chain-zero, chain-both}
 use Rattle.layout.specs.declared.Headed.the-variants.{Bad, Good}
@@ -91,9 +91,14 @@ module _ (n : ℕ) (head : List ℕ) (big : Bool) (one : rule1 n ≡ kept) (two 
 
 -- ---- rule 5
 
-pub count-is : (f : List ℕ) (n : ℕ) (big : Bool) (at k : ℕ) → k ≡ num big 2 f at → k ≡ countIn f (record { size = n; big = big; at = at })
+pub count-is : (f : List ℕ) (n : ℕ) (big : Bool) (at k : ℕ) (part : List ℕ) → part ≡ run f at 2 → k ≡ num big 2 part 0
+    → k ≡ countIn f (record { size = n; big = big; at = at })
 unfolding countIn countRun
-count-is f n big at k e = e ∙ ap (num big 2 f) (sym (add-zero at)) ∙ sym (num-run big 2 f at 2 0 (omega arith))
+count-is f n big at k part p e = e ∙ ap (λ (s : List ℕ). num big 2 s 0) p
+
+-- the part of the count has room for it
+pub room : (f : List ℕ) (at : ℕ) (part : List ℕ) → part ≡ run f at 2 → at + 2 ≤ length f → 0 + 2 ≤ length part
+room f at part p h = let e : length part ≡ 2 = ap length p ∙ run-length-in f at 2 h in omega arith
 
 pub count-bad : (f : List ℕ) (h : Head) (k : ℕ) → k ≡ countIn f h → rule5 (h .size) (h .at) k ≡ broken 0 → Refused 5 0 ≡ countedOf f h
 unfolding countedOf countStage countRules first

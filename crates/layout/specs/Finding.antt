@@ -1,8 +1,9 @@
 -- What one pass over a directory keeps: where a rule is broken, and where the tags of the table stand. Assumes nothing.
-use Prim.Native.Nat.{ℕ, suc, _+_, _-_}
+use Prim.Native.Nat.{ℕ, suc, _+_, _-_, _*_, _/_, _%_}
 use mathlib.Core.Bool.{Bool, cond}
 use mathlib.Core.List.{List, [], _∷_, map}
 use lib.Dec.{eqb}
+use lib.ListN.{getD}
 use Rattle.paper.specs.Layout.{entryAt}
 use Rattle.paper.specs.Tags.{absent}
 use Rattle.layout.specs.Columns.{tags}
@@ -14,17 +15,24 @@ use Rattle.paper.specs.declared.Outcome.the-variants.{Kept as kept, Broken as b
 unfoldable pub told : ℕ → Outcome
 told p = cond (eqb p 65536) kept (broken p)
 
--- the tags of the table above 284 differ in their last four bits: the index of the one with each
-unfoldable pub highSlots : List ℕ
-highSlots = 14 ∷ 15 ∷ 11 ∷ 17 ∷ 17 ∷ 17 ∷ 17 ∷ 17 ∷ 12 ∷ 17 ∷ 17 ∷ 17 ∷ 17 ∷ 16 ∷ 10 ∷ 13 ∷ []
+-- the cell of a tag, of 32
+unfoldable pub cellOf : ℕ → ℕ
+cellOf t = t * 687 / 256 % 32
 
--- and the tag of each index from 10 on
-unfoldable pub highTag : ℕ → ℕ
-highTag k =
-    cond (eqb k 10) 33550
-    (cond (eqb k 11) 33922
-    (cond (eqb k 12) 34264
-    (cond (eqb k 13) 34735 (cond (eqb k 14) 34736 (cond (eqb k 15) 34737 (cond (eqb k 16) 50909 65536))))))
+-- the tag in each cell, and its index in the table; in a cell without a tag of the table stands a tag of another cell
+unfoldable pub cellTags : List ℕ
+cellTags =
+    1 ∷ 34736 ∷ 0 ∷ 34737 ∷ 0 ∷ 0 ∷ 0 ∷ 277 ∷ 0 ∷ 0 ∷ 278 ∷ 50909 ∷ 279 ∷ 0 ∷ 34264 ∷ 256
+    ∷ 0 ∷ 257 ∷ 33550 ∷ 0 ∷ 258 ∷ 0 ∷ 0 ∷ 259 ∷ 33922 ∷ 0 ∷ 284 ∷ 0 ∷ 273 ∷ 0 ∷ 34735 ∷ 262 ∷ []
+
+unfoldable pub cellSlots : List ℕ
+cellSlots =
+    0 ∷ 14 ∷ 0 ∷ 15 ∷ 0 ∷ 0 ∷ 0 ∷ 6 ∷ 0 ∷ 0 ∷ 7 ∷ 16 ∷ 8 ∷ 0 ∷ 12 ∷ 0
+    ∷ 0 ∷ 1 ∷ 10 ∷ 0 ∷ 2 ∷ 0 ∷ 0 ∷ 3 ∷ 11 ∷ 0 ∷ 9 ∷ 0 ∷ 5 ∷ 0 ∷ 13 ∷ 4 ∷ []
+
+-- a tag stands in its cell
+unfoldable pub inCell : ℕ → Bool
+inCell t = eqb (getD cellTags (cellOf t) 0) t
 
 -- one more than the index of the first entry with tag t, where the first of the list has index i; 0 where there is none
 unfoldable pub placeFrom : ℕ → ℕ → List Entry → ℕ

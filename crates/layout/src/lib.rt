@@ -1,16 +1,16 @@
 // The layout of a file: its head, its count and its directory, rules 1 to 8; where the tags of the table stand; an entry's value.
 ghost use mathlib.Core.Path.{_≡_};
-ghost use mathlib.Core.Bool.{cond, not, _||_};
+ghost use mathlib.Core.Bool.{true, cond, not, _||_};
 ghost use Prim.Native.Nat.{_+_, _*_, _≤_, _<_};
 ghost use lib.Dec.{eqb, ltb};
-ghost use lib.ListN.{length, getD};
+ghost use lib.ListN.{length};
 ghost use Rattle.paper.specs.Bytes.{run};
 ghost use Rattle.paper.specs.Outcome.{breaks, verdict, orElse, first};
 ghost use Rattle.paper.specs.declared.Outcome.the-variants.{Kept as kept};
 ghost use Rattle.paper.specs.Layout.{odd, isBig, dirLen, rule1, rule2, sizeOf, entryOf, entries, badValue};
 ghost use Rattle.paper.specs.Judge.{dirRules};
 ghost use Rattle.layout.specs.Opening.{headedOf, countedOf, openedOf};
-ghost use Rattle.layout.specs.Finding.{told, highSlots, highTag};
+ghost use Rattle.layout.specs.Finding.{told, cellOf, cellTags, cellSlots, inCell};
 ghost use Rattle.paper.specs.Tests.{indexOf};
 ghost use Rattle.layout.specs.Columns.{tags, typsOf, countsOf, startsOf, lensOf};
 ghost use mathlib.Core.List.{[]};
@@ -133,7 +133,7 @@ fn read_count(file: &[u8], big: bool, at: usize) -> Opened
     requires { ⌜ (at + 2 ≤ length (now file)) × (length (now file) ≤ 4294967295) ⌝ }
     ensures { λ r. ⌜ r ≡ countedOf (now (file .entry)) (record { size = length (now (file .entry)); big = big; at = at }) ⌝ }
 {
-    let c = order::short(file, big, at);
+    let c = order::short(value(file, at, 2), big, 0);
     if c == 0 {
         return Opened::Refused(5, 0);
     }
@@ -200,103 +200,116 @@ fn step7(seven: usize, bad: bool, tag: usize) -> usize
     seven
 }
 
-// The index of a tag from 256 to 284, 17 where the table has it not. Each arm is written out, so that the program has a table of these and no jump.
-fn low_slot(tag: usize) -> usize
-    requires { ⌜ (256 ≤ tag) × (tag < 285) ⌝ }
-    ensures { λ r. ⌜ r ≡ indexOf tag tags ⌝ }
-{
-    match tag {
-        256 => 0,
-        257 => 1,
-        258 => 2,
-        259 => 3,
-        260 => 17,
-        261 => 17,
-        262 => 4,
-        263 => 17,
-        264 => 17,
-        265 => 17,
-        266 => 17,
-        267 => 17,
-        268 => 17,
-        269 => 17,
-        270 => 17,
-        271 => 17,
-        272 => 17,
-        273 => 5,
-        274 => 17,
-        275 => 17,
-        276 => 17,
-        277 => 6,
-        278 => 7,
-        279 => 8,
-        280 => 17,
-        281 => 17,
-        282 => 17,
-        283 => 17,
-        284 => 9,
-        _ => 18,
-    }
-}
+// The tags of the table, each in its cell of 32, and a tag of another cell in every cell that is left.
+pub const CELLS: [u16; 32] = [
+    1,
+    34736,
+    0,
+    34737,
+    0,
+    0,
+    0,
+    277,
+    0,
+    0,
+    278,
+    50909,
+    279,
+    0,
+    34264,
+    256,
+    0,
+    257,
+    33550,
+    0,
+    258,
+    0,
+    0,
+    259,
+    33922,
+    0,
+    284,
+    0,
+    273,
+    0,
+    34735,
+    262,
+];
 
-// The index of the one tag above 284 with these last four bits, 17 where the table has none.
-fn high_slot(bits: usize) -> usize
-    requires { ⌜ bits < 16 ⌝ }
-    ensures { λ r. ⌜ r ≡ getD highSlots bits 17 ⌝ }
-{
-    match bits {
-        0 => 14,
-        1 => 15,
-        2 => 11,
-        3 => 17,
-        4 => 17,
-        5 => 17,
-        6 => 17,
-        7 => 17,
-        8 => 12,
-        9 => 17,
-        10 => 17,
-        11 => 17,
-        12 => 17,
-        13 => 16,
-        14 => 10,
-        15 => 13,
-        _ => 18,
-    }
-}
+// The index of each cell's tag in the table.
+pub const SLOTS: [u8; 32] = [
+    0,
+    14,
+    0,
+    15,
+    0,
+    0,
+    0,
+    6,
+    0,
+    0,
+    7,
+    16,
+    8,
+    0,
+    12,
+    0,
+    0,
+    1,
+    10,
+    0,
+    2,
+    0,
+    0,
+    3,
+    11,
+    0,
+    9,
+    0,
+    5,
+    0,
+    13,
+    4,
+];
 
-// The tag above 284 with an index.
-fn high_tag(k: usize) -> usize
-    ensures { λ r. ⌜ r ≡ highTag k ⌝ }
-{
-    match k {
-        10 => 33550,
-        11 => 33922,
-        12 => 34264,
-        13 => 34735,
-        14 => 34736,
-        15 => 34737,
-        16 => 50909,
-        _ => 65536,
-    }
-}
-
-// The index of a tag in the table, 17 where it is not there.
-fn slot_of(tag: usize) -> usize
+// The cell of a tag. No two tags of the table share one.
+fn cell_of(tag: usize) -> usize
     requires { ⌜ tag < 65536 ⌝ }
-    ensures { λ r. ⌜ r ≡ indexOf tag tags ⌝ }
+    ensures { λ r. ⌜ (r ≡ cellOf tag) × (r < 32) ⌝ }
 {
-    if tag < 256 {
-        return 17;
-    }
-    if tag < 285 {
-        return low_slot(tag);
-    }
-    let k = high_slot(tag % 16);
-    if high_tag(k) == tag {
-        return k;
-    }
-    17
+    tag * 687 / 256 % 32
+}
+
+// A tag of a cell.
+fn wide(tag: u16) -> usize
+    ensures { λ r. ⌜ r ≡ tag ⌝ }
+{
+    tag as usize
+}
+
+// An index of a cell.
+fn wide_slot(slot: u8) -> usize
+    ensures { λ r. ⌜ r ≡ slot ⌝ }
+{
+    slot as usize
+}
+
+// Whether a tag is in the table: it stands in its cell.
+fn is_listed(cells: &[u16; 32], tag: usize) -> bool
+    requires { ⌜ (now cells ≡ cellTags) × (tag < 65536) ⌝ }
+    ensures { λ r. ⌜ r ≡ inCell tag ⌝ }
+{
+    let cell = cell_of(tag);
+    wide(cells[cell]) == tag
+}
+
+// The index of a tag of the table.
+fn slot_of(slots: &[u8; 32], tag: usize) -> usize
+    requires { ⌜ (now slots ≡ cellSlots) × (tag < 65536) × (inCell tag ≡ true) ⌝ }
+    ensures { λ r. ⌜ (r ≡ indexOf tag tags) × (r < 17) ⌝ }
+{
+    let cell = cell_of(tag);
+    wide_slot(slots[cell])
 }
 
 // The verdict of rules 6 to 8 from the places of rules 6 and 7, 65536 where they are kept, and the next offset.
@@ -331,6 +344,8 @@ fn directory_verdict(six: usize, seven: usize, next: usize) -> Verdict
 // Rules 6 to 8, and a column of each field of the table's tags, in one pass from the last entry to the first: at each turn all is known of the
 // entries from i on. The columns are lent as those of no entry; the starts and lengths end with those of the head and of the directory.
 pub fn scan(
+    cells: &[u16; 32],
+    slots: &[u8; 32],
     dir: &[u8],
     big: bool,
     at: usize,
@@ -341,7 +356,7 @@ pub fn scan(
     starts: &mut [usize; 19],
     lens: &mut [usize; 19],
 ) -> Verdict
-    requires { ⌜ (dirLen c ≤ length (now dir)) × (0 < c) × (c ≤ 1024) × (at + dirLen c ≤ n) × (n ≤ 4294967295) × (now typs ≡ typsOf []) × (now counts ≡ countsOf []) × (now starts ≡ startsOf at []) × (now lens ≡ lensOf c []) ⌝ }
+    requires { ⌜ (dirLen c ≤ length (now dir)) × (0 < c) × (c ≤ 1024) × (at + dirLen c ≤ n) × (n ≤ 4294967295) × (now typs ≡ typsOf []) × (now counts ≡ countsOf []) × (now starts ≡ startsOf at []) × (now lens ≡ lensOf c []) × (now cells ≡ cellTags) × (now slots ≡ cellSlots) ⌝ }
     ensures verdict { λ r. ⌜ r ≡ first (dirRules (record { size = n; big = big; at = at }) c (now (dir .entry)) (entries big at c (now (dir .entry)))) ⌝ }
     ensures typs { λ _. ⌜ now (typs .exit) ≡ typsOf (entries big at c (now (dir .entry))) ⌝ }
     ensures counts { λ _. ⌜ now (counts .exit) ≡ countsOf (entries big at c (now (dir .entry))) ⌝ }
@@ -358,8 +373,8 @@ pub fn scan(
         six = step6(six, e.tag, next);
         seven = step7(seven, bad_value(e, n), e.tag);
         next = e.tag;
-        let k = slot_of(e.tag);
-        if k < 17 {
+        if is_listed(cells, e.tag) {
+            let k = slot_of(slots, e.tag);
             typs[k] = e.typ;
             counts[k] = e.count;
             starts[k] = e.start;

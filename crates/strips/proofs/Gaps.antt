@@ -12,11 +12,8 @@ use borrow.Author.Tests.{eqb-true, eqb-false, leb-true, leb-false, ltb-true, ltb
 use Rattle.paper.specs.Tests.{all, some}
 use Rattle.paper.specs.Strips.{Part, part, shares}
 use Rattle.paper.proofs.Laws.{and-eq, and-both, or-false}
-use Rattle.strips.specs.Gaps.{whole, narrowed, exactOf, topOf, gapOf, clear}
+use Rattle.strips.specs.Gaps.{wide, clear, Found}
 use Rattle.strips.specs.declared.Gap.{Gap}
-
-abbrev pub Clear : Gap → List Part → Type 0
-Clear g ps = all (clear (g .lo) (g .hi)) ps ≡ true
 
 -- clear by one of three reasons
 clear-empty : (lo hi : ℕ) (p : Part) → p .len ≡ 0 → clear lo hi p ≡ true
@@ -85,109 +82,79 @@ clear-free lo hi s l (p ∷ ps) a b h =
     let c = and-eq (clear lo hi p) _ h in
     rw (unshared lo hi s l p a b (c .0)) (clear-free lo hi s l ps a b (c .1))
 
--- ---- the gap around a place
+-- ---- the gap around byte s of a file of n bytes
 
-module _ (s l : ℕ) (some-bytes : 0 < l) where
-  -- one range more: the gap is clear of it, or the place touches it; and what was clear stays so
-  record Step (g h : Gap) (p : Part) : Type 0 where
-    touches : h .touch ≡ shares (part s l) p || g .touch
-    here : h .touch ≡ false → clear (h .lo) (h .hi) p ≡ true
-    low : g .lo ≤ h .lo
-    high : h .hi ≤ g .hi
+-- What is known of it when the ranges ps were seen: no range has a byte in it where s does not lie below it; a place from s on that leaves it, or
+-- that starts below it, shares a byte with a range.
+pub record Around (s n : ℕ) (ps : List Part) (lo hi : ℕ) : Type 0 where
+  pub low : 8 ≤ lo
+  pub high : hi ≤ n
+  pub clean : lo ≤ s → all (clear lo hi) ps ≡ true
+  pub held : s < lo → (l : ℕ) → 0 < l → some (shares (part s l)) ps ≡ true
+  pub reach : (l : ℕ) → hi < s + l → s + l ≤ n → some (shares (part s l)) ps ≡ true
 
-  step : (g : Gap) (p : Part) → Step g (narrowed g s (s + l) (p .start) (p .len)) p
-  unfolding narrowed
-  step g p = at (eqb (p .len) 0) (leb (p .start + p .len) s) (leb (s + l) (p .start)) refl refl refl
-    where
-      at : (a b c : Bool) → eqb (p .len) 0 ≡ a → leb (p .start + p .len) s ≡ b → leb (s + l) (p .start) ≡ c → Step g (narrowed g s (s + l) (p .start) (p .len)) p
-      at a b true x y z =
-          let e : s + l ≤ p .start = leb-true _ _ z in
-          let n : shares (part s l) p ≡ false = shares-no s l p (omega arith) in
-          rw z
-          (record {
-            touches = sym (ap (λ (b : Bool). b || g .touch) n);
-            here = λ t. clear-behind (g .lo) (min (g .hi) (p .start)) p (omega arith);
-            low = omega arith;
-            high = omega arith;
-          })
-      at a true false x y z =
-          let e : p .start + p .len ≤ s = leb-true _ _ y in
-          let n : shares (part s l) p ≡ false = shares-no s l p (omega arith) in
-          rw (z, y)
-          (record {
-            touches = sym (ap (λ (b : Bool). b || g .touch) n);
-            here = λ t. clear-before (max (g .lo) (p .start + p .len)) (g .hi) p (omega arith);
-            low = omega arith;
-            high = omega arith;
-          })
-      at true false false x y z =
-          let e : p .len ≡ 0 = eqb-true _ _ x in
-          let n : shares (part s l) p ≡ false = shares-no s l p (omega arith) in
-          rw (z, y, x)
-          (record { touches = sym (ap (λ (b : Bool). b || g .touch) n); here = λ t. clear-empty (g .lo) (g .hi) p e; low = omega arith; high = omega arith })
-      at false false false x y z =
-          let w : p .len ≡ 0 → ⊥ = eqb-false _ _ x in
-          let u : s < p .start + p .len = leb-false _ _ y in
-          let v : p .start < s + l = leb-false _ _ z in
-          let n : shares (part s l) p ≡ true = shares-yes s l p (lemma (p .start) (p .len) w u v) in
-          rw (z, y, x)
-          (record { touches = sym (ap (λ (b : Bool). b || g .touch) n); here = λ t. absurd (true≢false t); low = omega arith; high = omega arith })
-        where
-          lemma : (a k : ℕ) → (k ≡ 0 → ⊥) → s < a + k → a < s + l → max s a < min (s + l) (a + k)
-          lemma a zero w u v = absurd (w refl)
-          lemma a (suc k) w u v = omega arith
+module _ (s n : ℕ) where
+  pub around-none : 8 ≤ s → Around s n [] 8 n
+  unfolding all
+  around-none h =
+      record { low = omega arith; high = omega arith; clean = λ a. refl; held = λ a l b. absurd (omega arith); reach = λ l a b. absurd (omega arith) }
 
-  exact-touch : (ps : List Part) → exactOf s (s + l) ps .touch ≡ some (shares (part s l)) ps
-  unfolding exactOf some
-  exact-touch [] = refl
-  exact-touch (p ∷ ps) =
-      step (exactOf s (s + l) ps) p .touches ∙ ap (λ (b : Bool). shares (part s l) p || b) (exact-touch ps)
+  module _ (p : Part) (ps : List Part) (lo hi : ℕ) (g : Around s n ps lo hi) where
+    -- a range behind s
+    pub around-behind : s < p .start → wide p ≡ true → Around s n (p ∷ ps) lo (min hi (p .start))
+    unfolding all some wide
+    around-behind b w =
+        record {
+          low = g .low;
+          high = let h = g .high in omega arith;
+          clean = λ a. and-both (clear lo (min hi (p .start)) p) _ (clear-behind lo (min hi (p .start)) p (omega arith)) (all-less lo hi lo (min hi (p .start)) ps (omega arith) (omega arith) (g .clean a));
+          held = λ a l c. rw (g .held a l c) (or-true (shares (part s l) p));
+          reach = reach-behind;
+        }
+      where
+        long : 4 < p .len
+        long = ltb-true _ _ w
 
-  -- an untouched list is clear of the gap
-  exact-clear : (ps : List Part) → exactOf s (s + l) ps .touch ≡ false → Clear (exactOf s (s + l) ps) ps
-  unfolding exactOf all
-  exact-clear [] t = refl
-  exact-clear (p ∷ ps) t =
-      let x = step (exactOf s (s + l) ps) p in
-      let y : exactOf s (s + l) ps .touch ≡ false = or-false (shares (part s l) p) _ (sym (x .touches) ∙ t) .1 in
-      and-both _ _ (x .here t) (all-less _ _ _ _ ps (x .low) (x .high) (exact-clear ps y))
+        reach-behind : (l : ℕ) → min hi (p .start) < s + l → s + l ≤ n → shares (part s l) p || some (shares (part s l)) ps ≡ true
+        reach-behind l a c = go (ltb hi (s + l)) refl
+          where
+            go : (t : Bool) → ltb hi (s + l) ≡ t → shares (part s l) p || some (shares (part s l)) ps ≡ true
+            go true e = rw (g .reach l (ltb-true _ _ e) c) (or-true (shares (part s l) p))
+            go false e =
+                let h : s + l ≤ hi = ltb-false _ _ e in
+                let k = long in
+                rw (shares-yes s l p (omega arith))
 
-  -- behind the greatest end
-  top-free : (top : ℕ) (ps : List Part) → topOf ps ≤ top → top ≤ s → some (shares (part s l)) ps ≡ false
-  unfolding topOf some
-  top-free top [] h i = refl
-  top-free top (p ∷ ps) h i = rw (shares-no s l p (omega arith)) (top-free top ps (omega arith) i)
+    -- a range that starts at s or before
+    pub around-before : p .start ≤ s → Around s n (p ∷ ps) (max lo (p .start + p .len)) hi
+    unfolding all some
+    around-before b =
+        record {
+          low = let h = g .low in omega arith;
+          high = g .high;
+          clean = λ a. and-both (clear (max lo (p .start + p .len)) hi p) _ (clear-before (max lo (p .start + p .len)) hi p (omega arith)) (all-less lo hi (max lo (p .start + p .len)) hi ps (omega arith) (omega arith) (g .clean (omega arith)));
+          held = held-before;
+          reach = λ l a c. rw (g .reach l a c) (or-true (shares (part s l) p));
+        }
+      where
+        held-before : s < max lo (p .start + p .len) → (l : ℕ) → 0 < l → shares (part s l) p || some (shares (part s l)) ps ≡ true
+        held-before a l c = go (ltb s lo) refl
+          where
+            go : (t : Bool) → ltb s lo ≡ t → shares (part s l) p || some (shares (part s l)) ps ≡ true
+            go true e = rw (g .held (ltb-true _ _ e) l c) (or-true (shares (part s l) p))
+            go false e =
+                let h : lo ≤ s = ltb-false _ _ e in
+                rw (shares-yes s l p (omega arith))
 
-  top-clear : (top hi : ℕ) (ps : List Part) → topOf ps ≤ top → all (clear top hi) ps ≡ true
-  unfolding topOf all
-  top-clear top hi [] h = refl
-  top-clear top hi (p ∷ ps) h = and-both (clear top hi p) _ (clear-before top hi p (omega arith)) (top-clear top hi ps (omega arith))
-
-  -- either way
-  pub gap-touch : (ps : List Part) → gapOf s (s + l) ps .touch ≡ some (shares (part s l)) ps
-  unfolding gapOf
-  gap-touch ps = at (ltb s (topOf ps)) refl
-    where
-      at : (a : Bool) → ltb s (topOf ps) ≡ a → gapOf s (s + l) ps .touch ≡ some (shares (part s l)) ps
-      at true x = rw x (exact-touch ps)
-      at false x =
-          let y : topOf ps ≤ s = ltb-false _ _ x in
-          rw x (sym (top-free (topOf ps) ps (omega arith) y))
-
-  pub gap-clear : (ps : List Part) → gapOf s (s + l) ps .touch ≡ false → Clear (gapOf s (s + l) ps) ps
-  unfolding gapOf
-  gap-clear ps = at (ltb s (topOf ps)) refl
-    where
-      at : (a : Bool) → ltb s (topOf ps) ≡ a → gapOf s (s + l) ps .touch ≡ false → Clear (gapOf s (s + l) ps) ps
-      at true x = rw x (exact-clear ps)
-      at false x = rw x (λ t. top-clear (topOf ps) 4294967295 ps (omega arith))
-
--- a narrower gap is clear too
-pub clear-within : (g : Gap) (n : ℕ) (ps : List Part) → Clear g ps → all (clear (max (g .lo) 8) (min (g .hi) n)) ps ≡ true
-clear-within g n ps h = all-less (g .lo) (g .hi) (max (g .lo) 8) (min (g .hi) n) ps (omega arith) (omega arith) h
-
--- an empty gap is clear of any list
-pub none-clear : (ps : List Part) → all (clear 8 0) ps ≡ true
-unfolding all
-none-clear [] = refl
-none-clear (p ∷ ps) = and-both (clear 8 0 p) _ (clear-behind 8 0 p zero-le) (none-clear ps)
+  -- all ranges were seen
+  pub found-gap : (ps : List Part) (lo hi : ℕ) → Around s n ps lo hi → Found s n ps (record { lo = lo; hi = hi })
+  found-gap ps lo hi g =
+      record {
+        low = g .low;
+        high = g .high;
+        clash = λ l a b c. ⊎-elim (λ e. g .held (ltb-true _ _ e) l a) (λ e. g .reach l (ltb-true _ _ e) b) (or-cases (ltb s lo) _ c);
+        free = λ l c.
+            let o = or-false (ltb s lo) _ c in
+            clear-free lo hi s l ps (ltb-false _ _ (o .0)) (ltb-false _ _ (o .1)) (g .clean (ltb-false _ _ (o .0)));
+        clean = λ t. g .clean (ltb-false _ _ t);
+      }

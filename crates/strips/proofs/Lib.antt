@@ -1,2 +1,3 @@
 pub mod Gaps
 pub mod Answers
+pub mod Passing

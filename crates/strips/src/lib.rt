@@ -1,21 +1,20 @@
 // Where the places of a picture may lie: rules 13 and 14 in one pass, each offset and byte count fetched once. The places are any two runs of
 // numbers, the reading list any two columns, so that every kind of picture is judged by this one pass.
 ghost use mathlib.Core.Path.{_≡_};
-ghost use mathlib.Core.Bool.{_||_};
+ghost use mathlib.Core.Bool.{cond, _||_};
 ghost use Prim.Native.Nat.{_+_, _*_, _≤_, _<_, max, min};
 ghost use lib.Dec.{ltb, eqb};
 ghost use lib.ListN.{length};
 ghost use Rattle.order.specs.Width.{width};
 ghost use Rattle.paper.specs.Outcome.{orElse, verdict};
 ghost use Rattle.paper.specs.Strips.{placesOf, rule13};
-ghost use Rattle.strips.specs.Gaps.{Low, fromPlace, rangesOf, narrowed, exactOf, topOf, gapOf, Skipped, placesJudged};
+ghost use Rattle.strips.specs.Gaps.{Low, fromPlace, rangesOf, Found, Skipped, placesJudged};
 use paper::Verdict;
 
-// A gap of the reading list: no byte from lo up to hi is on it. `touch` says that the place which was looked for shares a byte with the list.
+// A gap of the reading list around a byte: no byte from lo up to hi is on it. Where the byte itself is on the list, it lies below lo.
 pub struct Gap {
     pub lo: usize,
     pub hi: usize,
-    pub touch: bool,
 }
 
 // A place at which a search stopped, with its offset and byte count.
@@ -33,100 +32,60 @@ fn is_bad(start: usize, len: usize, n: usize) -> bool
     (len == 0) | ((start < 8) | (n < start + len))
 }
 
-fn larger(a: usize, b: usize) -> usize
-    ensures { λ r. ⌜ r ≡ max a b ⌝ }
+// Where a range starts that counts, and 0 for one of at most 4 bytes: that lies in an entry, and so in the range of the whole directory.
+fn counted(from: usize, len: usize) -> usize
+    ensures { λ r. ⌜ r ≡ cond (ltb 4 len) from 0 ⌝ }
 {
-    if a < b {
-        return b;
-    }
-    a
+    if 4 < len { from } else { 0 }
 }
 
-fn smaller(a: usize, b: usize) -> usize
-    ensures { λ r. ⌜ r ≡ min a b ⌝ }
+// The high end of a gap around a byte, with one range more that starts at `from`.
+fn lowered(hi: usize, byte: usize, from: usize) -> usize
+    ensures { λ r. ⌜ r ≡ cond (ltb byte from) (min hi from) hi ⌝ }
 {
-    if a < b {
-        return a;
+    if (byte < from) & (from < hi) {
+        return from;
     }
-    b
+    hi
 }
 
-// The gap around a place, from start up to end, with one range more on the list.
-fn narrow(g: Gap, start: usize, end: usize, from: usize, len: usize) -> Gap
-    requires { ⌜ (from < 68719476736) × (len < 68719476736) ⌝ }
-    ensures { λ r. ⌜ r ≡ narrowed g start end from len ⌝ }
+// The low end, with one range more from `from` up to `to`.
+fn raised(lo: usize, byte: usize, from: usize, to: usize) -> usize
+    ensures { λ r. ⌜ r ≡ cond (ltb byte from) lo (max lo to) ⌝ }
 {
-    if end <= from {
-        return Gap {
-            lo: g.lo,
-            hi: smaller(g.hi, from),
-            touch: g.touch,
-        };
+    if (from <= byte) & (lo < to) {
+        return to;
     }
-    let to = from + len;
-    if to <= start {
-        return Gap {
-            lo: larger(g.lo, to),
-            hi: g.hi,
-            touch: g.touch,
-        };
-    }
-    if len == 0 {
-        return g;
-    }
-    Gap {
-        lo: g.lo,
-        hi: g.hi,
-        touch: true,
-    }
+    lo
 }
 
-// The gap around a place, from start up to end, among m ranges that each have a start and a length.
-fn exact_gap(starts: &[usize], lens: &[usize], m: usize, start: usize, end: usize) -> Gap
-    requires { ⌜ (m ≤ length (now starts)) × (m ≤ length (now lens)) × Low (now starts) × Low (now lens) ⌝ }
-    ensures { λ r. ⌜ r ≡ exactOf start end (rangesOf (now (starts .entry)) (now (lens .entry)) m) ⌝ }
+// The gap around a byte of a file of n bytes, among m ranges that each have a start and a length. Nothing in it depends on a test that the
+// processor would have to guess.
+fn gap_of(starts: &[usize], lens: &[usize], m: usize, n: usize, byte: usize) -> Gap
+    requires { ⌜ (m ≤ length (now starts)) × (m ≤ length (now lens)) × Low (now starts) × Low (now lens) × (8 ≤ byte) ⌝ }
+    ensures { λ r. ⌜ Found byte n (rangesOf (now (starts .entry)) (now (lens .entry)) m) r ⌝ }
 {
-    let mut g = Gap {
-        lo: 0,
-        hi: 4294967295,
-        touch: false,
-    };
+    let mut lo = 8;
+    let mut hi = n;
     let mut j = m;
     while 0 < j {
         j -= 1;
-        g = narrow(g, start, end, starts[j], lens[j]);
+        let len = lens[j];
+        let from = counted(starts[j], len);
+        hi = lowered(hi, byte, from);
+        lo = raised(lo, byte, from, from + len);
     }
-    g
+    Gap { lo, hi }
 }
 
-// The greatest end of m ranges.
-fn top_of(starts: &[usize], lens: &[usize], m: usize) -> usize
-    requires { ⌜ (m ≤ length (now starts)) × (m ≤ length (now lens)) × Low (now starts) × Low (now lens) ⌝ }
-    ensures { λ r. ⌜ r ≡ topOf (rangesOf (now (starts .entry)) (now (lens .entry)) m) ⌝ }
+// Whether a place has no bytes or does not lie in the gap from lo up to hi. Its ends are counted from lo: one that starts before lo wraps around.
+fn is_out(start: usize, len: usize, lo: usize, hi: usize) -> bool
+    requires { ⌜ (start < 4294967296) × (len < 4294967296) × (lo ≤ hi) × (hi ≤ 4294967295) ⌝ }
+    ensures { λ r. ⌜ r ≡ ltb start lo || (eqb len 0 || ltb hi (start + len)) ⌝ }
 {
-    let mut top = 0;
-    let mut j = m;
-    while 0 < j {
-        j -= 1;
-        top = larger(top, starts[j] + lens[j]);
-    }
-    top
-}
-
-// The gap around a place: the one behind the whole list where the place lies there.
-fn gap_of(starts: &[usize], lens: &[usize], m: usize, start: usize, end: usize) -> Gap
-    requires { ⌜ (m ≤ length (now starts)) × (m ≤ length (now lens)) × Low (now starts) × Low (now lens) ⌝ }
-    ensures { λ r. ⌜ r ≡ gapOf start end (rangesOf (now (starts .entry)) (now (lens .entry)) m) ⌝ }
-{
-    let top = top_of(starts, lens, m);
-    if start < top {
-        return exact_gap(starts, lens, m, start, end);
-    }
-    Gap {
-        lo: top,
-        hi: 4294967295,
-        touch: false,
-    }
+    let from = std::num::wrapping_sub_usize(start, lo);
+    let to = std::num::wrapping_add_usize(from, len);
+    (to <= from) | (hi - lo < to)
 }
 
 // The first place from `from` on that does not lie in the gap from lo up to hi, with its offset and byte count; k where all do.
@@ -141,14 +100,14 @@ fn skip_run(
     lo: usize,
     hi: usize,
 ) -> Stop
-    requires { ⌜ (from ≤ k) × (k < 4294967296) × (width wideoffsets * k ≤ length (now offsets)) × (width widecounts * k ≤ length (now counts)) ⌝ }
+    requires { ⌜ (from ≤ k) × (k < 4294967296) × (width wideoffsets * k ≤ length (now offsets)) × (width widecounts * k ≤ length (now counts)) × (lo ≤ hi) × (hi ≤ 4294967295) ⌝ }
     ensures { λ r. ⌜ Skipped big (width wideoffsets) (now (offsets .entry)) (width widecounts) (now (counts .entry)) k lo hi from r ⌝ }
 {
     let mut i = from;
     while i < k {
         let start = order::element(offsets, big, wideoffsets, i);
         let len = order::element(counts, big, widecounts, i);
-        if (start < lo) | ((len == 0) | (hi < start + len)) {
+        if is_out(start, len, lo, hi) {
             return Stop { at: i, start, len };
         }
         i += 1;
@@ -172,7 +131,7 @@ fn skip(
     lo: usize,
     hi: usize,
 ) -> Stop
-    requires { ⌜ (from ≤ k) × (k < 4294967296) × (width wideoffsets * k ≤ length (now offsets)) × (width widecounts * k ≤ length (now counts)) ⌝ }
+    requires { ⌜ (from ≤ k) × (k < 4294967296) × (width wideoffsets * k ≤ length (now offsets)) × (width widecounts * k ≤ length (now counts)) × (lo ≤ hi) × (hi ≤ 4294967295) ⌝ }
     ensures { λ r. ⌜ Skipped big (width wideoffsets) (now (offsets .entry)) (width widecounts) (now (counts .entry)) k lo hi from r ⌝ }
 {
     if wideoffsets {
@@ -239,11 +198,11 @@ pub fn judge_places(
     lens: &[usize],
     m: usize,
 ) -> Verdict
-    requires { ⌜ (k < 4294967296) × (width wideoffsets * k ≤ length (now offsets)) × (width widecounts * k ≤ length (now counts)) × (m ≤ length (now starts)) × (m ≤ length (now lens)) × Low (now starts) × Low (now lens) ⌝ }
+    requires { ⌜ (k < 4294967296) × (width wideoffsets * k ≤ length (now offsets)) × (width widecounts * k ≤ length (now counts)) × (m ≤ length (now starts)) × (m ≤ length (now lens)) × Low (now starts) × Low (now lens) × (8 ≤ n) × (n ≤ 4294967295) ⌝ }
     ensures { λ r. ⌜ r ≡ placesJudged n (rangesOf (now (starts .entry)) (now (lens .entry)) m) (placesOf big (width wideoffsets) (now (offsets .entry)) (width widecounts) (now (counts .entry)) k) ⌝ }
 {
     let mut lo = 8;
-    let mut hi = 0;
+    let mut hi = 8;
     let mut i = 0;
     while i < k {
         let s = skip(offsets, wideoffsets, counts, widecounts, big, i, k, lo, hi);
@@ -259,8 +218,8 @@ pub fn judge_places(
                 place: s.at as u32,
             };
         }
-        let g = gap_of(starts, lens, m, s.start, s.start + s.len);
-        if g.touch {
+        let g = gap_of(starts, lens, m, n, s.start);
+        if (s.start < g.lo) | (g.hi < s.start + s.len) {
             return after_clash(
                 offsets,
                 wideoffsets,
@@ -273,8 +232,8 @@ pub fn judge_places(
                 s.at as u32,
             );
         }
-        lo = larger(g.lo, 8);
-        hi = smaller(g.hi, n);
+        lo = g.lo;
+        hi = g.hi;
         i = s.at + 1;
     }
     Verdict {

@@ -1,51 +1,37 @@
--- `slot_of` answers the index of a tag: by the low table, or by its last four bits. Assumes nothing.
-use mathlib.Core.Path.{_≡_, sym, _∙_}
-use Rattle.layout.proofs.Finding.{slot-below, slot-found, slot-none}
 use borrow.Author.Needs.{needs}
+use lib.ListN.{getD}
+use native.Mathlib.Omega.{arith}
+use Prim.Native.Nat.{ℕ, _<_}
+use mathlib.Core.List.{List}
+use mathlib.Core.Path.{_≡_, ap₂, _∙_}
+use Rattle.layout.proofs.Finding.{cell-found}
+use Rattle.layout.specs.Finding.{cellSlots, cellOf}
 use Rattle.layout.proofs.slot_of.Statement.{statement}
 use Rattle.layout.proofs.slot_of.Tie as tie
 use Rattle.layout.proofs.slot_of.Reads as reads
 use Rattle.layout.proofs.slot_of.Lts as lts
-use Rattle.layout.proofs.high_slot.Reads as high-slot-reads
-use Rattle.layout.proofs.high_tag.Reads as high-tag-reads
-use Rattle.layout.proofs.low_slot.Reads as low-slot-reads
+use Rattle.layout.proofs.cell_of.Reads as cell-of-reads
+use Rattle.layout.proofs.wide_slot.Reads as wide-slot-reads
 
--- src/lib.rt:289:9
+-- src/lib.rt:311:9
+cell-of-requires : tie.Need-cell-of-requires
+cell-of-requires c κs = search needs
+
+-- src/lib.rt:312:15
+element-copy-out-wide-slot : tie.Need-element-copy-out-wide-slot
+element-copy-out-wide-slot c = search needs
+
+-- src/lib.rt:312:5
+wide-slot-requires : tie.Need-wide-slot-requires
+wide-slot-requires c κs = search needs
+
+-- src/lib.rt:307:1
 returns : tie.Need-returns
-returns c = slot-below (c .before .args .tag) (c .if1 .taken)
-
--- src/lib.rt:292:9
-low-slot-requires : tie.Need-low-slot-requires
-low-slot-requires c κs = search needs
-
--- src/lib.rt:292:9
-returns-2 : tie.Need-returns-2
-returns-2 c = search needs
-
--- src/lib.rt:294:9
-high-slot-requires : tie.Need-high-slot-requires
-high-slot-requires c κs = search needs
-
--- src/lib.rt:295:8
-high-tag-requires : tie.Need-high-tag-requires
-high-tag-requires c κs = search needs
-
--- src/lib.rt:296:9
-returns-3 : tie.Need-returns-3
-returns-3 c = slot-found (c .before .before .before .before .before .args .tag) (c .before .before .high-slot .result) (c .before .before .before .before .before .pre) (sym (c .before .high-tag .ensures) ∙ c .if3 .taken)
-
--- src/lib.rt:284:1
-returns-4 : tie.Need-returns-4
-returns-4 c = slot-none (c .before .before .before .before .before .args .tag) (c .before .before .high-slot .result) (c .before .before .before .if2 .left) (c .before .before .high-slot .ensures) (λ e. c .if3 .left (c .before .high-tag .ensures ∙ e))
+returns c =
+    let e : c .wide-slot .result ≡ getD cellSlots (cellOf (c .before .before .before .args .tag)) 0 = c .wide-slot .ensures ∙ ap₂ (λ (l : List ℕ) (i : ℕ). getD l i 0) (c .before .before .before .pre .0) (c .before .before .cell-of .ensures .0) in
+    let f = cell-found (c .before .before .before .args .tag) (c .before .before .before .pre .2) in
+    (e ∙ f .0, omega (arith, e, f .1))
 
 pub slot-of-spec : {M : Type 1} → statement M
 slot-of-spec =
-    tie.close
-    (tie.spec
-    returns
-    low-slot-requires
-    returns-2
-    high-slot-requires
-    high-tag-requires
-    returns-3
-    returns-4)
+    tie.close (tie.spec cell-of-requires element-copy-out-wide-slot wide-slot-requires returns)
