@@ -80,4 +80,5 @@ module _ (f : List ℕ) (accepts : verdictOf f .number ≡ 0) where
   pub picture : (g : List ℕ) → Repainted f g → SameAnswers f g
   picture g r = unseen f g (r .long) (repainted-agree f g accepts r)
 
--- The marked examples are in `Marked` (`marked`, one table), the 45 kinds and the order of the tables in `Tables` (`kinds`, `known-order`).
+-- The marked examples are in `Marked` (`marked`, one table), with the whole reading list of a file of each stage (`allowed`); the 45 kinds and the
+-- order of the tables in `Tables` (`kinds`, `known-order`).

@@ -1,19 +1,22 @@
--- Document 01, 'File A', 'Marked examples' and 'Errors that tempt': files, what the calls answer for each, and that the definitions give just
--- that, computed. Assumes nothing.
+-- Document 01, 'File A', 'Marked examples', 'Reading list' and 'Errors that tempt': files, what the calls answer for each, what may be read of
+-- each, and that the definitions give just that, computed. Assumes nothing.
 use Prim.Native.Nat.{ℕ, _+_}
 use mathlib.Core.Path.{_≡_, refl}
-use mathlib.Core.Bool.{false}
+use mathlib.Core.Bool.{true, false}
 use mathlib.Core.List.{List, [], _∷_, _++_, map}
-use lib.ListN.{length, replicate}
+use lib.ListN.{length, replicate, take}
 use lib.Seq.{sets}
 use lib.Ieee as Ieee
 use lib.Ieee.{Float, fin, binary64}
 use lib.IntN.{pos, negsuc}
-use Rattle.paper.specs.Bytes.{enc}
+use Rattle.paper.specs.Bytes.{enc, build}
 use Rattle.paper.specs.Outcome.{verdict}
+use Rattle.paper.specs.Strips.{Part, part}
 use Rattle.paper.specs.Ground.{ofNat}
+use Rattle.paper.specs.Judge.{verdictOf, readingList}
 use Rattle.paper.specs.Calls.{noCorners, judgedOf, rowsOf, rowsLeft, citedOf}
 use Rattle.paper.specs.Block.{joined, encs}
+use Rattle.paper.specs.Asked.{onList}
 use Rattle.paper.proofs.Computed.{computed}
 use Rattle.paper.specs.declared.Verdict.{Verdict}
 use Rattle.paper.specs.declared.Corners.{Corners}
@@ -170,6 +173,75 @@ row k n f l = record { key = k; kind = n; first = f; len = l }
 pub rows-A : rowsLeft fileA (replicate 4 (row 7 7 7 7)) ≡ row 1024 0 244 2 ∷ row 1025 0 252 2 ∷ row 3072 0 260 2 ∷ row 7 7 7 7 ∷ []
 unfolding fileA computed row
 rows-A = refl
+
+-- ---- the reading list
+
+-- a file, and what may be read of it: the number of its verdict, and the whole list
+pub record Allowed : Type 0 where
+  pub number : ℕ
+  pub list : List Part
+
+pub record Reading : Type 0 where
+  pub file : List ℕ
+  pub gives : Allowed
+
+reading : List ℕ → ℕ → List Part → Reading
+reading f k ps = record { file = f; gives = record { number = k; list = ps } }
+
+-- the first 8 bytes; the count's two; the directory's 150
+head8 : List Part
+head8 = part 0 8 ∷ []
+
+count2 : List Part
+unfolding head8
+count2 = head8 ++ part 8 2 ∷ []
+
+dir150 : List Part
+unfolding count2
+dir150 = count2 ++ part 8 150 ∷ []
+
+-- the values of A behind the width: eight more in their entries, then scale, tiepoint and key directory
+others : List Part
+others =
+    part 30 2 ∷ part 42 2 ∷ part 54 2 ∷ part 66 2 ∷ part 78 2 ∷ part 90 2 ∷ part 102 2 ∷ part 114 2 ∷ part 158 24 ∷ part 182 48 ∷ part 230 32 ∷ []
+
+whole : List Part
+unfolding dir150 others
+whole = dir150 ++ part 18 2 ∷ others
+
+pub readings : List Reading
+unfolding reading head8 count2 dir150 others whole fileA changed enc
+readings =
+    reading fileA 0 whole
+    -- empty, and 7 bytes: all n
+    ∷ reading [] 1 (part 0 0 ∷ [])
+    ∷ reading (take 7 fileA) 1 (part 0 7 ∷ [])
+    -- 4D 49 and 4D 4D at the start, directory offset 9
+    ∷ reading (changed 0 (0x4D ∷ [])) 2 head8
+    ∷ reading (changed 0 (0x4D ∷ 0x4D ∷ [])) 3 head8
+    ∷ reading (changed 4 (enc 4 9)) 4 head8
+    -- no entries
+    ∷ reading (changed 8 (enc 2 0)) 5 count2
+    -- the first entry with tag 258, and with count 0
+    ∷ reading (changed 10 (enc 2 258)) 6 dir150
+    ∷ reading (changed 14 (enc 4 0)) 7 dir150
+    -- next offset 8
+    ∷ reading (changed 154 (enc 4 8)) 8 whole
+    -- the first entry with tag 255, which is not in the table, and with type 13: it has no value on the list
+    ∷ reading (changed 10 (enc 2 255)) 9 (dir150 ++ others)
+    ∷ reading (changed 12 (enc 2 13)) 10 (dir150 ++ others)
+    -- scale X = 0
+    ∷ reading (changed 158 (enc 8 0)) 21 whole
+    ∷ []
+
+pub allowed : map (λ x. record { number = verdictOf (x .file) .number; list = readingList (x .file) }) readings ≡ map (λ x. x .gives) readings
+unfolding readings computed
+allowed = refl
+
+-- of A it is bytes 0 to 261
+pub listed-A : build (λ i. onList i (readingList fileA)) 0 270 ≡ replicate 262 true ++ replicate 8 false
+unfolding fileA computed
+listed-A = refl
 
 -- ---- errors that tempt
 

@@ -53,10 +53,8 @@ unshared i a (p ∷ ps) h t = go (inPart i p) refl (unshared i a ps (or-false (s
 listed-full : (f : List ℕ) → verdictOf f .number ≡ 0 → (i : ℕ) → onList i (fullOf (view f)) ≡ false → onList i (readingList f) ≡ false
 unfolding readingList countParts dirParts heldParts onList fullOf fullList view viewAt some
 listed-full f z i h =
-    let a : past 5 (verdictOf f .number) ≡ true = T-true _ (past-zero 5 z) in
-    let b : past 6 (verdictOf f .number) ≡ true = T-true _ (past-zero 6 z) in
-    let c : past 8 (verdictOf f .number) ≡ true = T-true _ (past-zero 8 z) in
-    rw (a, b, c) (or-both _ _ (go (inPart i (part 0 (min 8 (length f)))) refl) (or-false (inPart i (part 0 8)) _ h .1))
+    let a : (k : ℕ) → past k (verdictOf f .number) ≡ true = λ k. T-true _ (past-zero k z) in
+    simp (a) (or-both _ _ (go (inPart i (part 0 (min 8 (length f)))) refl) (or-false (inPart i (part 0 8)) _ h .1))
   where
     go : (b : Bool) → inPart i (part 0 (min 8 (length f))) ≡ b → inPart i (part 0 (min 8 (length f))) ≡ false
     go true e =

@@ -14,7 +14,7 @@ use Rattle.paper.specs.Layout.{dirLen, entries}
 use Rattle.paper.specs.Tests.{all, some, keep}
 use Rattle.paper.specs.Tags.{Line, table, Held, hold, listed}
 use Rattle.paper.specs.Strips.{Part, part, valueParts, fullList}
-use Rattle.paper.specs.Judge.{Head, View, headOf, headRun, headIn, countRun, countIn, dirRun, entriesIn, viewAt, view, verdictOf, readingList, past, countParts, dirParts, heldParts}
+use Rattle.paper.specs.Judge.{Head, View, headOf, headRun, headIn, countRun, countIn, dirRun, entriesIn, viewAt, view, verdictOf, readingList, past, from, countParts, dirParts, heldParts}
 use Rattle.paper.specs.Keys.{keyRules}
 use Rattle.paper.specs.Judge.{headStage, countStage, dirStage, viewStage, headRules, countRules, dirRules, viewRules, tagRules, groundRules}
 use Rattle.paper.specs.Asked.{inPart, onList, Agree}
@@ -128,6 +128,10 @@ agree-right f g ps qs h i o = h i (on-right i ps qs o)
 abbrev pub Past : ℕ → List ℕ → Type 0
 Past k f = T (past k (verdictOf f .number))
 
+-- what the list has from verdict j on, a verdict from k on has, where j is not above k
+opened : (k : ℕ) (f g : List ℕ) (j : ℕ) (ps : List Part) → j ≤ k → Past k f → Agree f g (from j f ps) → Agree f g ps
+opened k f g j ps l t h = agree-from f g (past j (verdictOf f .number)) ps (past-less j k _ l t) h
+
 -- which stages the verdict has passed, where the stages before give 0
 past8 : (f : List ℕ) → headStage f .number ≡ 0 → countStage f (headIn f) .number ≡ 0 → dirStage f (headIn f) .number ≡ 0 → Past 8 f
 unfolding verdictOf viewStage viewRules tagRules keyRules groundRules all
@@ -170,7 +174,7 @@ module _ (f g : List ℕ) (n : length f ≡ length g) (h : Agree f g (readingLis
   -- with the first file's head, in both
   count-same : Past 5 f → countIn f (headIn f) ≡ countIn g (headIn f)
   unfolding countParts
-  count-same t = count-here f g n (headIn f) (agree-from f g (past 5 (verdictOf f .number)) _ t (agree-left f g (countParts f) _ later))
+  count-same t = count-here f g n (headIn f) (opened 5 f g _ _ (omega arith) t (agree-left f g (countParts f) _ later))
 
   five : Past 6 f → Past 5 f
   five t = past-less 5 6 _ (omega arith) t
@@ -179,7 +183,7 @@ module _ (f g : List ℕ) (n : length f ≡ length g) (h : Agree f g (readingLis
   unfolding dirParts
   dir-same t =
       dir-here f g n (headIn f) (count-same (five t))
-      (agree-from f g (past 6 (verdictOf f .number)) _ t (agree-left f g (dirParts f) (heldParts f) (agree-right f g (countParts f) _ later)))
+      (opened 6 f g _ _ (omega arith) t (agree-left f g (dirParts f) (heldParts f) (agree-right f g (countParts f) _ later)))
 
   entries-same : Past 6 f → entriesIn f (headIn f) ≡ entriesIn g (headIn f)
   entries-same t = entries-here f g n (headIn f) (count-same (five t)) (dir-same t)
@@ -204,7 +208,7 @@ module _ (f g : List ℕ) (n : length f ≡ length g) (h : Agree f g (readingLis
   unfolding view viewAt heldParts
   view-same t =
       view-here f g n (headIn f) table (count-same (five (six t))) (entries-same (six t))
-      (agree-from f g (past 8 (verdictOf f .number)) _ t (agree-right f g (dirParts f) (heldParts f) (agree-right f g (countParts f) _ later)))
+      (opened 8 f g _ _ (omega arith) t (agree-right f g (dirParts f) (heldParts f) (agree-right f g (countParts f) _ later)))
       ∙ ap (viewAt table g) headIn-same
 
   -- Demand 3: verdict and place

@@ -30,7 +30,8 @@ pub struct KeyEntry {
     pub index: usize,
 }
 
-// A key row: key, kind (0 SHORT, 1 DOUBLE, 2 ASCII, 3 other), first byte in the file, length in bytes.
+// A key row: key, kind (0 SHORT, 1 DOUBLE, 2 ASCII, 3 other), first byte in the file, length in bytes. C lends rows of this layout.
+#[repr(C)]
 pub struct Row {
     pub key: u32,
     pub kind: u32,
