@@ -1,7 +1,5 @@
 // What the programs print about a file: its verdict and, if it is accepted, its key rows. Document 01's bench lines.
-ghost use mathlib.Core.Path.{_≡_};
-ghost use Rattle.judge.specs.Examining.{examinedOf};
-use judge::Examined;
+ghost use Prim.Native.Nat.{_≤_};
 use libc::STDOUT_FILENO;
 use paper::Row;
 
@@ -21,27 +19,29 @@ fn print_row(row: Row) {
 }
 
 // The line of K, and a line for each key row of an accepted file.
-fn print_rows(file: &[u8], e: Examined)
-    requires { ⌜ (e ≡ examinedOf (now file)) × (e .judged .verdict .number ≡ 0) ⌝ }
+fn print_rows(keys: u32, rows: [Row; 256])
+    requires { ⌜ keys ≤ 256 ⌝ }
 {
-    print_number(b"keys ", e.judged.keys);
+    print_number(b"keys ", keys);
     io::write_all(STDOUT_FILENO, b"\n");
-    let k = e.judged.keys as usize;
+    let k = keys as usize;
     let mut i = 0;
     while i < k {
-        print_row(rows::row_at(file, e, i));
+        print_row(rows[i]);
         i += 1;
     }
 }
 
-// Verdict and place on one line; of an accepted file then K and the key rows.
+// Verdict and place on one line; of an accepted file then K and the key rows, as the call wrote them to 256 lent rows.
 pub fn print(file: &[u8]) {
-    let e = judge::examine(file);
-    print_number(b"verdict ", e.judged.verdict.number);
-    print_number(b" place ", e.judged.verdict.place);
+    let lent = rows::lend(file);
+    let counted = lent.counted;
+    print_number(b"verdict ", counted.verdict.number);
+    print_number(b" place ", counted.verdict.place);
     io::write_all(STDOUT_FILENO, b"\n");
-    if e.judged.verdict.number == 0 {
-        print_rows(file, e);
+    if counted.verdict.number == 0 {
+        let rows = lent.rows;
+        print_rows(counted.keys, rows);
     }
 }
 

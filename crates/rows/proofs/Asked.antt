@@ -10,32 +10,34 @@ use Rattle.paper.specs.Tag
 use Rattle.paper.specs.Tags.{table, find}
 use Rattle.paper.specs.Keys.{Runs, keys, keyCount, keyAt, rule15, rule17}
 use Rattle.paper.specs.Judge.{view, runsOf, verdictOf}
-use Rattle.paper.specs.Calls.{Starts, startsOf, rowOf, rowAt, judgedIn}
+use Rattle.paper.specs.Calls.{Starts, startsOf, rowOf, rowAt}
 use Rattle.paper.specs.declared.Outcome.the-variants.{Kept as kept}
 use Rattle.paper.specs.declared.Row.{Row}
 use Rattle.paper.proofs.Laws.{run-length-in}
+use Rattle.paper.proofs.Called.{answer-good}
 use Rattle.tags.specs.Slots.{tagAt, lineAt}
 use Rattle.keys.specs.Pass.{runs}
 use Rattle.keys.proofs.Rows.{row-asks}
 use Rattle.keys.proofs.Turn.{entry-any}
-use Rattle.judge.specs.Examining.{runOf, examinedIn, examinedOf}
-use Rattle.judge.specs.declared.Examined.{Examined}
-use Rattle.rows.proofs.Seen.{Stands, accepted, found, size, fifteen, seventeen, stands}
+use Rattle.judge.specs.Examining.{runOf, examinedIn, notExamined, examinedOf}
+use Rattle.judge.proofs.Seen.{Stands, size, fifteen, seventeen, stands}
+use Rattle.rows.specs.Planning.{planBy, planOf, Asks}
+use Rattle.rows.specs.declared.Plan.{Plan}
 
--- the key directory's part of the file, and where the three runs start, by what was examined
-abbrev pub partOf : List ℕ → Examined → List ℕ
-partOf f e = run f (e .directory .start) (e .directory .len)
+-- the key directory's part of the file, and where the three runs start, by a plan
+abbrev pub partOf : List ℕ → Plan → List ℕ
+partOf f p = run f (p .start) (p .len)
 
-abbrev pub startsBy : Examined → Starts
-startsBy e = record { directory = e .directory .start; doubles = e .doubles .start; characters = e .characters .start }
+abbrev pub startsBy : Plan → Starts
+startsBy p = record { directory = p .start; doubles = p .doubles; characters = p .characters }
 
 -- what is asked for row i, and what it is
-pub record Asked (f : List ℕ) (e : Examined) (i : ℕ) : Type 0 where
-  pub within : e .directory .start + e .directory .len ≤ length f
+pub record Asked (f : List ℕ) (p : Plan) (i : ℕ) : Type 0 where
+  pub within : p .start + p .len ≤ length f
   pub few : i < 256
-  pub here : 8 * i + 16 ≤ length (partOf f e)
-  pub low : rowOf (startsBy e) i (keyAt (runs (e .big) (partOf f e) [] []) i) .first < 4294967296
-  pub row : rowOf (startsBy e) i (keyAt (runs (e .big) (partOf f e) [] []) i) ≡ rowAt (view f) i
+  pub here : 8 * i + 16 ≤ length (partOf f p)
+  pub low : rowOf (startsBy p) i (keyAt (runs (p .big) (partOf f p) [] []) i) .first < 4294967296
+  pub row : rowOf (startsBy p) i (keyAt (runs (p .big) (partOf f p) [] []) i) ≡ rowAt (view f) i
 
 module _ (f : List ℕ) (zero : verdictOf f .number ≡ 0) where
   -- the run of the value of a tag
@@ -64,7 +66,7 @@ module _ (f : List ℕ) (zero : verdictOf f .number ≡ 0) where
       let l = run-length-in f (find t (view f .held) .entry .start) (find t (view f .held) .entry .len) (s .within) in
       omega (arith, size f zero, s .within, l)
 
-  in-view : (i : ℕ) → i < keyCount (runsOf (view f)) → Asked f (examinedIn (view f)) i
+  in-view : (i : ℕ) → i < keyCount (runsOf (view f)) → Asked f (planBy (examinedIn (view f))) i
   unfolding examinedIn runOf startsOf rowAt
   in-view i h =
       let a =
@@ -78,20 +80,22 @@ module _ (f : List ℕ) (zero : verdictOf f .number ≡ 0) where
         few = a .0;
         here = a .1;
         low = a .2;
-        row = ap (rowOf (startsOf (view f)) i) (entry-any _ (Part Tag.keyDirectory) (Part Tag.doubles) (Part Tag.characters) i ∙ ap (λ (r : Runs). keyAt r i) runs-are);
+        row = ap (rowOf (startsOf (view f)) i) (entry-any _ (Part Tag.keyDirectory) (Part Tag.doubles) (Part Tag.characters) i ∙ ap
+            (λ (r : Runs). keyAt r i) runs-are);
       }
 
--- all of it holds for row i of a file that was examined and accepted
-pub asked : (f : List ℕ) (e : Examined) (i : ℕ) → (e ≡ examinedOf f) × (e .judged .verdict .number ≡ 0) × (i < e .judged .keys) → Asked f e i
-unfolding examinedIn judgedIn
-asked f e i p =
-    let z = accepted f e (p .0) (p .1) in
-    let s = found f e (p .0) (p .1) in
-    let h : i < keyCount (runsOf (view f)) = subst (λ (x : Examined). i < x .judged .keys) s (p .2) in
-    subst (λ (x : Examined). Asked f x i) (sym s) (in-view f z i h)
+  -- the plan of an accepted file
+  plan-is : planOf f ≡ planBy (examinedIn (view f))
+  unfolding planOf examinedOf
+  plan-is = ap planBy (answer-good f examinedIn notExamined zero)
+
+-- all of it holds for a row that can be made
+pub asked : (f : List ℕ) (p : Plan) (i : ℕ) → Asks f p i → Asked f p i
+asked f p i a =
+    subst (λ (x : Plan). Asked f x i) (sym (a .planned ∙ plan-is f (a .accepted))) (in-view f (a .accepted) i (a .below))
 
 -- a row that was made of the key directory's part is the paper's
-pub made : (f : List ℕ) (e : Examined) (i : ℕ) → (e ≡ examinedOf f) × (e .judged .verdict .number ≡ 0) × (i < e .judged .keys)
-    → (d : List ℕ) → d ≡ partOf f e → (r : Row) → r ≡ rowOf (startsBy e) i (keyAt (runs (e .big) d [] []) i) → r ≡ rowAt (view f) i
-made f e i p d so r is =
-    is ∙ ap (λ (s : List ℕ). rowOf (startsBy e) i (keyAt (runs (e .big) s [] []) i)) so ∙ asked f e i p .row
+pub made : (f : List ℕ) (p : Plan) (i : ℕ) → Asks f p i → (d : List ℕ) → d ≡ partOf f p → (r : Row)
+    → r ≡ rowOf (startsBy p) i (keyAt (runs (p .big) d [] []) i) → r ≡ rowAt (view f) i
+made f p i a d so r is =
+    is ∙ ap (λ (s : List ℕ). rowOf (startsBy p) i (keyAt (runs (p .big) s [] []) i)) so ∙ asked f p i a .row

@@ -1,14 +1,14 @@
--- `print_rows` ends, and each row that it asks for is one of the file's K. Assumes nothing.
+-- `print_rows` ends, and each row that it prints is one of the 256. Assumes nothing.
 use Prim.Native.Nat.{_-_}
 use borrow.Author.Needs.{needs}
 use Rattle.report.proofs.print_rows.Statement.{statement}
 use Rattle.report.proofs.print_rows.Tie as tie
 
 abbrev Inv-loop : tie.InvT-loop
-Inv-loop file e k i₀ i = Unit {0}
+Inv-loop keys rows k i₀ i = Unit {0}
 
 abbrev μ-loop : tie.MeasureT-loop
-μ-loop file e k i₀ i = k - i
+μ-loop keys rows k i₀ i = k - i
 
 slice-aggregate-print-number : tie.Need-slice-aggregate-print-number Inv-loop μ-loop
 slice-aggregate-print-number c = search needs
@@ -22,14 +22,14 @@ slice-aggregate-write-all c = search needs
 write-all-requires : tie.Need-write-all-requires Inv-loop μ-loop
 write-all-requires c κs = search needs
 
-cast-k : tie.Need-cast-k Inv-loop μ-loop
-cast-k c = search needs
-
 loop-holds : tie.Need-loop-holds Inv-loop μ-loop
 loop-holds c = search needs
 
-row-at-requires : tie.Need-row-at-requires Inv-loop μ-loop
-row-at-requires c κs = search needs
+mul-print-row : tie.Need-mul-print-row Inv-loop μ-loop
+mul-print-row c = search needs
+
+array-copy-out-print-row : tie.Need-array-copy-out-print-row Inv-loop μ-loop
+array-copy-out-print-row c = search needs
 
 print-row-requires : tie.Need-print-row-requires Inv-loop μ-loop
 print-row-requires c κs = search needs
@@ -56,9 +56,9 @@ print-rows-spec =
     print-number-requires
     slice-aggregate-write-all
     write-all-requires
-    cast-k
     loop-holds
-    row-at-requires
+    mul-print-row
+    array-copy-out-print-row
     print-row-requires
     add-i
     loop-less

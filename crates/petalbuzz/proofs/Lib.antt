@@ -1,0 +1,2 @@
+-- Every call's answer is determined. Assumes nothing.
+pub mod Determined
