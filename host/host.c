@@ -1,94 +1,100 @@
 /* The host: maps each named file and prints the verdict on it.
  *
  *   host FILE...            one line a file: PATH verdict V place P
- *   host --serve [CALL]     answers frames on standard input, for the tests
+ *   host --serve            answers frames on standard input, for the tests
  *
  * Status: 0 all accepted, 1 some refused, 2 some not read. */
 #define _POSIX_C_SOURCE 200809L
 #include "../include/petalbuzz.h"
-#ifdef HOST_BARE
-#include <system.h>
-#else
-#include <errno.h>
-#include <fcntl.h>
-#include <stdio.h>
-#include <stdlib.h>
-#include <string.h>
-#include <sys/mman.h>
-#include <sys/stat.h>
-#include <unistd.h>
-#endif
-
-enum { ACCEPTED = 0, REFUSED = 1, NOT_READ = 2 };
+#include "files.h"
 
 static int not_read(const char *path, const char *why) {
     dprintf(2, "host: %s: %s\n", path, why);
     return NOT_READ;
 }
 
-/* Maps the open file, judges it and prints its line. */
-static int judge_open(const char *path, int fd) {
-    struct stat about;
-    if (fstat(fd, &about) != 0) return not_read(path, strerror(errno));
-    if (S_ISDIR(about.st_mode)) return not_read(path, "is a directory");
-    if (!S_ISREG(about.st_mode)) return not_read(path, "is not a regular file");
-    size_t len = (size_t)about.st_size;
-    void *file = NULL; /* nothing can be mapped of an empty file */
-    if (len > 0) {
-        file = mmap(NULL, len, PROT_READ, MAP_PRIVATE, fd, 0);
-        if (file == MAP_FAILED) return not_read(path, strerror(errno));
-    }
-    petalbuzz_judged answer = petalbuzz_judge_file(file, len);
-    if (len > 0) munmap(file, len);
+/* Judges the file of that name and prints its line. */
+static int judge_path(const char *path) {
+    struct whole file;
+    const char *wrong = map_path(path, &file);
+    if (wrong) return not_read(path, wrong);
+    petalbuzz_judged answer = petalbuzz_judge_file(file.bytes, file.len);
+    give_back(&file);
     printf("%s verdict %u place %u\n", path, answer.verdict, answer.place);
     return answer.verdict == 0 ? ACCEPTED : REFUSED;
 }
 
-static int judge_path(const char *path) {
-    /* without waiting, so that a pipe without a writer is named and not waited for */
-    int fd = open(path, O_RDONLY | O_NONBLOCK);
-    if (fd < 0) return not_read(path, strerror(errno));
-    int status = judge_open(path, fd);
-    close(fd);
-    return status;
-}
-
 /* ---- frames ----
- * A frame is a length of 4 bytes, the lowest first, and so many bytes. The
- * answer to each is one record of fixed size, its numbers as the machine has
- * them. What a call fails to write keeps the byte 0xA5. */
+ * A frame is a head of numbers of 4 bytes, the lowest first, then the bytes
+ * that are lent: the memory to be written and three runs. The answer to each
+ * is one record of fixed size, its numbers as the machine has them, and the
+ * lent bytes again, as they are after the call. What a call fails to write
+ * in the record keeps the byte 0xA5. */
 
-struct judge_record {
-    uint32_t verdict, place;
+/* The numbers of the head: which call; the key asked for; the bytes at either
+ * end of the memory that are not lent; the length of the memory and of each
+ * run. */
+enum { CALL, KEY, MARGIN, MEMORY, RUN, HEAD = RUN + 3 };
+
+struct question {
+    uint32_t key;
+    uint8_t *out;
+    size_t room;
+    const uint8_t *run[3];
+    size_t len[3];
 };
 
-struct ground_record {
-    uint32_t verdict, place, form, zero;
-    double six[6], corners[4];
+struct record {
+    uint32_t verdict, place, third, gap;
+    union {
+        double doubles[10];
+        size_t sizes[10];
+    } wide;
 };
 
-static void serve_judge(const uint8_t *file, size_t len, void *to) {
-    struct judge_record *r = to;
-    petalbuzz_judge(file, len, &r->verdict, &r->place);
+/* Each call of the library in this one shape. */
+
+static void ask_judge(const struct question *q, struct record *r) {
+    petalbuzz_judge(q->run[0], q->len[0], &r->verdict, &r->place);
 }
 
-static void serve_ground(const uint8_t *file, size_t len, void *to) {
-    struct ground_record *r = to;
-    petalbuzz_ground(file, len, &r->verdict, &r->place, &r->form, r->six, r->corners);
-    r->zero = 0;
+static void ask_ground(const struct question *q, struct record *r) {
+    petalbuzz_ground(q->run[0], q->len[0], &r->verdict, &r->place, &r->third, r->wide.doubles,
+                     r->wide.doubles + 6);
 }
 
-/* The calls that can be served, by name; the first is the usual one. */
-static const struct call {
-    const char *name;
-    size_t size;
-    void (*answer)(const uint8_t *file, size_t len, void *record);
-} calls[] = {
-    {"ground", sizeof(struct ground_record), serve_ground},
-    {"judge", sizeof(struct judge_record), serve_judge},
+static void ask_rows(const struct question *q, struct record *r) {
+    petalbuzz_row *rows = (void *)q->out;
+    petalbuzz_rows(q->run[0], q->len[0], rows, q->room / sizeof *rows, &r->verdict, &r->place,
+                   &r->third);
+}
+
+static void ask_citation(const struct question *q, struct record *r) {
+    petalbuzz_citation(q->run[0], q->len[0], q->key, &r->verdict, &r->place, &r->wide.sizes[0],
+                       &r->wide.sizes[1]);
+}
+
+static void ask_metadata(const struct question *q, struct record *r) {
+    petalbuzz_metadata(q->run[0], q->len[0], q->run[1], q->len[1], &r->verdict, &r->place,
+                       &r->third, &r->wide.sizes[0], &r->wide.sizes[1]);
+}
+
+static void ask_key_block(const struct question *q, struct record *r) {
+    petalbuzz_key_block(q->run[0], q->len[0], q->out, q->room, &r->verdict, &r->place,
+                        r->wide.sizes);
+}
+
+static void ask_read_block(const struct question *q, struct record *r) {
+    petalbuzz_read_block(q->run[0], q->len[0], q->run[1], q->len[1], q->run[2], q->len[2],
+                         &r->verdict, &r->place, &r->third);
+}
+
+/* The calls by their number in the head. */
+static void (*const calls[])(const struct question *, struct record *) = {
+    ask_judge, ask_ground, ask_rows, ask_citation, ask_metadata, ask_key_block, ask_read_block,
 };
 
-static uint8_t answers[1 << 16]; /* records not yet written */
+static uint8_t answers[1 << 16]; /* not yet written */
 static size_t answered;
 
 static int write_answers(void) {
@@ -102,27 +108,75 @@ static int write_answers(void) {
     return 1;
 }
 
-static int answer_frame(const struct call *call, const uint8_t *file, size_t len) {
-    union {
-        struct judge_record judge;
-        struct ground_record ground;
-    } record;
-    if (answered + call->size > sizeof answers && !write_answers()) return 0;
-    memset(&record, 0xA5, sizeof record);
-    call->answer(file, len, &record);
-    memcpy(answers + answered, &record, call->size);
-    answered += call->size;
+/* Adds bytes to the answers, and writes these when they are full. */
+static int put(const void *bytes, size_t n) {
+    const uint8_t *next = bytes;
+    while (n > 0) {
+        if (answered == sizeof answers && !write_answers()) return 0;
+        size_t part = sizeof answers - answered;
+        if (part > n) part = n;
+        memcpy(answers + answered, next, part);
+        answered += part;
+        next += part;
+        n -= part;
+    }
     return 1;
+}
+
+/* The lent bytes of one frame, copied to an address that is aligned for rows. */
+static uint8_t *lent;
+static size_t lent_size;
+
+static int lend(const uint8_t *bytes, size_t n) {
+    if (lent_size < n + 1) {
+        uint8_t *moved = realloc(lent, n + 1);
+        if (!moved) return 0;
+        lent = moved;
+        lent_size = n + 1;
+    }
+    memcpy(lent, bytes, n);
+    return 1;
+}
+
+/* Asks the call on the lent bytes: first the memory, then the runs. */
+static void ask(const uint32_t head[HEAD], struct record *record) {
+    struct question q = {.key = head[KEY], .out = lent + head[MARGIN]};
+    const uint8_t *next = lent + head[MEMORY];
+    q.room = head[MEMORY] - 2 * (size_t)head[MARGIN];
+    for (int i = 0; i < 3; i++) {
+        q.run[i] = next;
+        q.len[i] = head[RUN + i];
+        next += q.len[i];
+    }
+    memset(record, 0xA5, sizeof *record);
+    calls[head[CALL]](&q, record);
+}
+
+/* Answers one frame: null, or what is wrong. */
+static const char *answer_frame(const uint32_t head[HEAD], const uint8_t *bytes, size_t n) {
+    struct record record;
+    if (head[CALL] >= sizeof calls / sizeof calls[0]) return "no such call";
+    if (head[MEMORY] < 2 * (size_t)head[MARGIN]) return "no such memory";
+    if (!lend(bytes, n)) return strerror(errno);
+    ask(head, &record);
+    return put(&record, sizeof record) && put(lent, n) ? NULL : "cannot write";
 }
 
 /* Bytes read and not yet used: from `from` up to `to`. */
 static uint8_t *room;
 static size_t size, from, to;
 
-static size_t frame_size(void) {
-    if (to - from < 4) return 4;
-    const uint8_t *b = room + from;
-    return 4 + ((size_t)b[0] | (size_t)b[1] << 8 | (size_t)b[2] << 16 | (size_t)b[3] << 24);
+/* Reads the head, if it is there, and gives the size of the frame; else that
+ * of a head. */
+static size_t frame_size(uint32_t head[HEAD]) {
+    size_t frame = 4 * HEAD;
+    if (to - from < frame) return frame;
+    for (int i = 0; i < HEAD; i++) {
+        head[i] = 0;
+        for (int j = 3; j >= 0; j--) head[i] = head[i] << 8 | room[from + 4 * i + j];
+        if (i >= MEMORY) frame += head[i];
+    }
+    return frame;
 }
 
 /* Makes room for a frame of so many bytes and reads what there is: 1, 0 at
@@ -149,11 +203,13 @@ static int read_more(size_t frame) {
 }
 
 /* Answers every whole frame at hand before it writes and waits for more. */
-static int serve(const struct call *call) {
+static int serve(void) {
     for (;;) {
+        uint32_t head[HEAD];
         size_t frame;
-        while (frame = frame_size(), to - from >= 4 && to - from >= frame) {
-            if (!answer_frame(call, room + from + 4, frame - 4)) return not_read("--serve", "cannot write");
+        while (frame = frame_size(head), to - from >= frame) {
+            const char *wrong = answer_frame(head, room + from + 4 * HEAD, frame - 4 * HEAD);
+            if (wrong) return not_read("--serve", wrong);
             from += frame;
         }
         if (!write_answers()) return not_read("--serve", "cannot write");
@@ -163,18 +219,12 @@ static int serve(const struct call *call) {
     }
 }
 
-static int serve_named(const char *name) {
-    for (size_t i = 0; i < sizeof calls / sizeof calls[0]; i++)
-        if (!name || strcmp(name, calls[i].name) == 0) return serve(&calls[i]);
-    return not_read(name, "is no call that can be served");
-}
-
 int main(int argc, char **argv) {
     if (argc < 2) {
-        dprintf(2, "host FILE...\nhost --serve [CALL]\n");
+        dprintf(2, "host FILE...\nhost --serve\n");
         return NOT_READ;
     }
-    if (strcmp(argv[1], "--serve") == 0) return serve_named(argv[2]);
+    if (strcmp(argv[1], "--serve") == 0) return serve();
     int worst = ACCEPTED;
     for (int i = 1; i < argc; i++) {
         int status = judge_path(argv[i]);

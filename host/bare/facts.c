@@ -3,19 +3,17 @@
  * wrong. */
 #include <stddef.h>
 #include <stdint.h>
-#ifdef HOST_BARE
-#include <system.h>
-#define offsetof(type, field) __builtin_offsetof(type, field)
-#else
+#include <dirent.h>
 #include <errno.h>
 #include <fcntl.h>
+#include <setjmp.h>
+#include <signal.h>
 #include <stdio.h>
 #include <stdlib.h>
 #include <string.h>
 #include <sys/mman.h>
 #include <sys/stat.h>
 #include <unistd.h>
-#endif
 
 const long facts[] = {
     O_RDONLY,
@@ -24,32 +22,60 @@ const long facts[] = {
     MAP_PRIVATE,
     (long)MAP_FAILED,
     EINTR,
+    SIGBUS,
+    (long)SIG_DFL,
+    sizeof(sigjmp_buf),
     S_ISDIR(0040755),
     S_ISDIR(0100644),
     S_ISREG(0100644),
     S_ISREG(0140644),
+    S_ISLNK(0120777),
+    S_ISLNK(0100644),
     sizeof(struct stat),
     offsetof(struct stat, st_mode),
     offsetof(struct stat, st_size),
+    offsetof(struct dirent, d_name),
+    sizeof(((struct dirent *)0)->d_name),
     sizeof(uint8_t) + 16 * sizeof(uint32_t) + 256 * sizeof(uint64_t) + 4096 * sizeof(size_t),
 };
 
 #define IS(name, ...) _Static_assert(__builtin_types_compatible_p(__typeof__(name), __VA_ARGS__), #name)
 IS(((struct stat *)0)->st_mode, unsigned);
 IS(((struct stat *)0)->st_size, long);
+IS(signal, void (*(int, void (*)(int)))(int));
 IS(__errno_location, int *(void));
 IS(open, int(const char *, int, ...));
 IS(fstat, int(int, struct stat *));
+IS(stat, int(const char *, struct stat *));
+IS(lstat, int(const char *, struct stat *));
+IS(opendir, DIR *(const char *));
+IS(readdir, struct dirent *(DIR *));
+IS(closedir, int(DIR *));
 IS(close, int(int));
 IS(read, long(int, void *, size_t));
 IS(write, long(int, const void *, size_t));
 IS(mmap, void *(void *, size_t, int, int, int, long));
 IS(munmap, int(void *, size_t));
+IS(malloc, void *(size_t));
 IS(realloc, void *(void *, size_t));
+IS(free, void(void *));
+IS(qsort, void(void *, size_t, size_t, int (*)(const void *, const void *)));
+IS(strtod, double(const char *, char **));
+IS(getenv, char *(const char *));
+IS(exit, void(int));
 IS(memset, void *(void *, int, size_t));
 IS(memmove, void *(void *, const void *, size_t));
 IS(memcpy, void *(void *, const void *, size_t));
+IS(strlen, size_t(const char *));
+IS(strpbrk, char *(const char *, const char *));
 IS(strcmp, int(const char *, const char *));
 IS(strerror, char *(int));
 IS(printf, int(const char *, ...));
+IS(fprintf, int(FILE *, const char *, ...));
 IS(dprintf, int(int, const char *, ...));
+IS(snprintf, int(char *, size_t, const char *, ...));
+IS(fwrite, size_t(const void *, size_t, size_t, FILE *));
+IS(fflush, int(FILE *));
+IS(ferror, int(FILE *));
+IS(stdout, FILE *);
+IS(stderr, FILE *);

@@ -1,9 +1,14 @@
 /* What the host uses of the C library of Linux on x86-64, for a compiler that
- * comes without its headers. host/test compares it with the headers. */
+ * comes without its headers. Each header of its name here stands for this one;
+ * host/test compares it with the library's own. */
 #ifndef BARE_SYSTEM_H
 #define BARE_SYSTEM_H
 
 #include <stddef.h>
+
+#ifdef __cplusplus
+extern "C" {
+#endif
 
 #define NULL ((void *)0)
 
@@ -13,8 +18,11 @@
 #define MAP_PRIVATE 2
 #define MAP_FAILED ((void *)-1)
 #define EINTR 4
+#define SIGBUS 7
+#define SIG_DFL ((void (*)(int))0)
 #define S_ISDIR(mode) (((mode) & 0170000) == 0040000)
 #define S_ISREG(mode) (((mode) & 0170000) == 0100000)
+#define S_ISLNK(mode) (((mode) & 0170000) == 0120000)
 
 typedef long ssize_t;
 typedef long off_t;
@@ -27,27 +35,67 @@ struct stat {
     long bare_rest[11];
 };
 
+struct dirent {
+    unsigned long d_ino, bare_next;
+    unsigned short bare_length;
+    unsigned char d_type;
+    char d_name[256];
+};
+
+typedef struct {
+    long bare[25];
+} sigjmp_buf[1];
+int __sigsetjmp(sigjmp_buf here, int mask) __attribute__((__returns_twice__));
+#define sigsetjmp(here, mask) __sigsetjmp(here, mask)
+void siglongjmp(sigjmp_buf there, int answer) __attribute__((__noreturn__));
+void (*signal(int number, void (*handler)(int)))(int);
+
 int *__errno_location(void);
 #define errno (*__errno_location())
 
 int open(const char *path, int flags, ...);
 int fstat(int fd, struct stat *to);
+int stat(const char *path, struct stat *to);
+int lstat(const char *path, struct stat *to);
 int close(int fd);
 ssize_t read(int fd, void *to, size_t n);
 ssize_t write(int fd, const void *from, size_t n);
 void *mmap(void *at, size_t len, int protection, int flags, int fd, off_t from);
 int munmap(void *at, size_t len);
 
+typedef struct bare_folder DIR;
+DIR *opendir(const char *path);
+struct dirent *readdir(DIR *folder);
+int closedir(DIR *folder);
+
+void *malloc(size_t n);
 void *realloc(void *old, size_t n);
+void free(void *old);
+void qsort(void *from, size_t n, size_t size, int (*order)(const void *, const void *));
+double strtod(const char *from, char **end);
+char *getenv(const char *name);
+void exit(int status) __attribute__((__noreturn__));
+
 void *memset(void *to, int byte, size_t n);
 void *memmove(void *to, const void *from, size_t n);
 void *memcpy(void *to, const void *from, size_t n);
+size_t strlen(const char *from);
+char *strpbrk(const char *from, const char *any);
 int strcmp(const char *one, const char *other);
 char *strerror(int number);
 
+typedef struct bare_stream FILE;
+extern FILE *stdout, *stderr;
 int printf(const char *format, ...);
+int fprintf(FILE *stream, const char *format, ...);
 int dprintf(int fd, const char *format, ...);
-struct bare_stream;
-int fflush(struct bare_stream *stream);
+int snprintf(char *to, size_t n, const char *format, ...);
+size_t fwrite(const void *from, size_t size, size_t n, FILE *stream);
+int fflush(FILE *stream);
+int ferror(FILE *stream);
+
+#ifdef __cplusplus
+}
+#endif
 
 #endif

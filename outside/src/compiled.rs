@@ -1,6 +1,11 @@
-//! The compiled judge. Where the target is x86-64 the static library is
-//! linked; elsewhere the C host is asked over a pipe. The calls are the same.
+//! The compiled library. Where the target is x86-64 it is linked; elsewhere
+//! the C host is asked over a pipe. The calls are the same: `question` has
+//! their one shape, `asking` makes questions of every call on a file, and
+//! `expected` has what the second reader says to each.
 
+pub mod asking;
+mod expected;
+mod question;
 #[cfg(direct)]
 #[path = "compiled/linked.rs"]
 mod way;
@@ -8,7 +13,9 @@ mod way;
 #[path = "compiled/piped.rs"]
 mod way;
 
-pub use way::{ground, judge_verdict};
+pub use expected::reply as expected_reply;
+pub use question::{Numbers, Question, Reply, Symbol};
+pub use way::ask;
 #[cfg(direct)]
 pub use way::{ground_into, verdict_of, Raw};
 
@@ -25,10 +32,14 @@ pub struct Answer {
     pub corners: [u64; 4],
 }
 
-/// The compiled judge's answer on one file. For many files `ground` is quicker.
-pub fn judge(file: &[u8]) -> (u32, u32, u32, [u64; 6], [u64; 4]) {
-    let answer = ground(&[file])[0];
-    (answer.verdict, answer.place, answer.form, answer.six, answer.corners)
+impl Answer {
+    /// The answer in the reply of `petalbuzz_ground`.
+    pub fn of(reply: &Reply) -> Self {
+        let Numbers { verdict, place, third: form, wide, .. } = reply.numbers;
+        let six = std::array::from_fn(|at| wide[at]);
+        let corners = std::array::from_fn(|at| wide[6 + at]);
+        Answer { verdict, place, form, six, corners }
+    }
 }
 
 /// What the second reader says the answer must be.
@@ -60,24 +71,17 @@ pub fn fast(file: &[u8]) -> Answer {
     }
 }
 
+/// Where the library says something else to these questions than the second
+/// reader: one text each, at most ten.
+pub fn faults(questions: &[Question]) -> Vec<String> {
+    let replies = ask(questions);
+    let asked = questions.iter().zip(&replies);
+    asked.filter_map(|(asked, got)| got.fault(asked, &expected_reply(asked))).take(10).collect()
+}
+
 /// Where the compiled judge says something else than the second reader on
-/// these files: one line each, at most ten.
+/// these files, verdict alone and with the ground.
 pub fn disagreements(files: &[Vec<u8>]) -> Vec<String> {
-    let files: Vec<&[u8]> = files.iter().map(Vec::as_slice).collect();
-    let (grounds, verdicts) = (ground(&files), judge_verdict(&files));
-    let mut lines = Vec::new();
-    for (at, file) in files.iter().enumerate() {
-        let want = expected(file);
-        if grounds[at] != want {
-            lines.push(format!("ground gives {:?}\n  not {want:?}\n  on {file:02X?}", grounds[at]));
-        }
-        if verdicts[at] != (want.verdict, want.place) {
-            let (got, want) = (verdicts[at], (want.verdict, want.place));
-            lines.push(format!("judge gives {got:?}\n  not {want:?}\n  on {file:02X?}"));
-        }
-        if lines.len() >= 10 {
-            break;
-        }
-    }
-    lines
+    let both = |file| [Symbol::Judge, Symbol::Ground].map(|symbol| Question::on(symbol, file));
+    faults(&files.iter().flat_map(|file| both(file)).collect::<Vec<Question>>())
 }

@@ -1,12 +1,10 @@
 //! The compiled judge against the second reader: verdict, place, form, six
-//! doubles and corners, by bits; and that it does not see the picture.
+//! doubles and corners, by bits. `calls` does so for the other calls.
 
-use outside::compiled::{disagreements, expected, ground, judge, Answer};
+use outside::compiled::{ask, disagreements, Answer, Question, Symbol};
 use outside::generator::large::many_strips;
-use outside::generator::prng::Random;
 use outside::generator::{sample, targeted, Call};
-use outside::reader::{listed, Order};
-use std::collections::BTreeMap;
+use outside::reader::Order;
 
 /// Files of the mix go to the judge in runs of so many.
 const RUN: u64 = 10_000;
@@ -48,46 +46,7 @@ fn files_of_many_strips_agree() {
 
 #[test]
 fn an_empty_file_is_refused_by_rule_1() {
-    assert_eq!(judge(&[]), (1, 0, 0, [0; 6], [0; 4]));
-}
-
-/// Files of every verdict, at most `most` of each.
-fn of_every_verdict(most: usize) -> Vec<(Vec<u8>, Answer)> {
-    let mut seen: BTreeMap<u32, usize> = BTreeMap::new();
-    let mixed = (0..6_000).map(|number| sample(53, number).file);
-    let mut files = Vec::new();
-    for file in mixed.chain(cases(53)) {
-        let answer = expected(&file);
-        let count = seen.entry(answer.verdict).or_insert(0);
-        *count += 1;
-        if *count <= most {
-            files.push((file, answer));
-        }
-    }
-    assert_eq!(seen.keys().copied().collect::<Vec<u32>>(), (0..=22).collect::<Vec<u32>>());
-    files
-}
-
-/// Demand 3: every byte that is not on the reading list is drawn anew, and
-/// the compiled judge's whole answer stays.
-#[test]
-fn repainting_what_is_not_on_the_reading_list_changes_nothing() {
-    let mut random = Random::new(54);
-    let (mut painted, mut wanted, mut changed) = (Vec::new(), Vec::new(), 0);
-    for (file, answer) in of_every_verdict(40) {
-        let list = listed(&file);
-        for _ in 0..3 {
-            let fresh = random.bytes(file.len());
-            let byte = |at: usize| if list[at] { file[at] } else { fresh[at] };
-            let other: Vec<u8> = (0..file.len()).map(byte).collect();
-            changed += usize::from(other != file);
-            painted.push(other);
-            wanted.push(answer);
-        }
-    }
-    assert!(changed > 1_000, "{changed} files changed");
-    let lent: Vec<&[u8]> = painted.iter().map(Vec::as_slice).collect();
-    for (at, got) in ground(&lent).iter().enumerate() {
-        assert_eq!(*got, wanted[at], "{:02X?}", painted[at]);
-    }
+    let reply = &ask(&[Question::on(Symbol::Ground, &[])])[0];
+    let refused = Answer { verdict: 1, place: 0, form: 0, six: [0; 6], corners: [0; 4] };
+    assert_eq!(Answer::of(reply), refused);
 }

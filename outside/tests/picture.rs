@@ -3,7 +3,7 @@
 
 mod common;
 
-use common::UNTOUCHED;
+use common::{repainted, UNTOUCHED};
 use outside::generator::prng::Random;
 use outside::generator::{random, targeted, Call};
 use outside::reader::{
@@ -65,14 +65,6 @@ fn answers(file: &[u8]) -> Answers {
         blocks: [0, 32, 100, 3_000].iter().map(|&room| block(file, room)).collect(),
         list: listed(file),
     }
-}
-
-/// The file with every byte off its reading list drawn anew.
-fn repainted(file: &[u8], random: &mut Random) -> Vec<u8> {
-    let list = listed(file);
-    let fresh = random.bytes(file.len());
-    let byte = |at: usize| if list[at] { file[at] } else { fresh[at] };
-    (0..file.len()).map(byte).collect()
 }
 
 /// A few files of each targeted clause, and files of the random mix.

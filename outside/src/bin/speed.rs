@@ -3,6 +3,8 @@
 //!   speed write FOLDER           the files, as frames: a length and the bytes
 //!   speed time FRAMES            the best time of many passes, and the ratio
 //!   speed run CALL PASSES FRAMES one call only, for counting instructions
+//!   speed fetch STRIPS FRAMES    the compiled judge once on a file of so many
+//!                                strips; prints where their words stand
 //!
 //! All but `write` need the static library linked. outside/speed runs it.
 
@@ -25,6 +27,10 @@ fn main() -> ExitCode {
             Ok(passes) => measure::run(call, passes, &load(path)),
             Err(_) => return usage(),
         },
+        ["fetch", strips, path] => match strips.parse() {
+            Ok(strips) => measure::fetch(strips, &load(path)),
+            Err(_) => return usage(),
+        },
         _ => return usage(),
     }
     ExitCode::SUCCESS
@@ -32,8 +38,12 @@ fn main() -> ExitCode {
 
 fn usage() -> ExitCode {
     eprintln!("speed write FOLDER\nspeed time FRAMES\nspeed run CALL PASSES FRAMES");
+    eprintln!("speed fetch STRIPS FRAMES");
     ExitCode::FAILURE
 }
+
+/// The bytes of each strip of the files of many strips.
+const STRIP: usize = 3;
 
 /// The mix with every second file damaged, the same of each byte order alone,
 /// and one file each of many strips.
@@ -44,7 +54,7 @@ fn write_all(folder: &Path) {
     write(folder, "little", of_order(0x49).take(FILES));
     write(folder, "big", of_order(0x4D).take(FILES));
     for (name, strips) in [("strips-40000", 40_000), ("strips-1000000", 1_000_000)] {
-        write(folder, name, [many_strips(Order::Little, strips, 3)].into_iter());
+        write(folder, name, [many_strips(Order::Little, strips, STRIP as u32)].into_iter());
     }
 }
 
@@ -76,6 +86,10 @@ mod measure {
     }
 
     pub fn run(_: &str, _: usize, _: &[Vec<u8>]) {
+        time(&[]);
+    }
+
+    pub fn fetch(_: usize, _: &[Vec<u8>]) {
         time(&[]);
     }
 }
@@ -144,6 +158,14 @@ mod measure {
         }
         let ratio = |one: usize| best[one].0 / best[one + 1].0;
         println!("  ratio of the best: ground {:.2}, judge {:.2}", ratio(0), ratio(2));
+    }
+
+    /// Offsets and byte counts stand right before the strips, as LONGs.
+    pub fn fetch(strips: usize, files: &[Vec<u8>]) {
+        let words = files[0].len() - (super::STRIP + 8) * strips;
+        let from = files[0].as_ptr() as usize + words;
+        println!("{from:08x} {:08x}", from + 8 * strips);
+        assert_eq!(verdict_of(black_box(&files[0])), (0, 0));
     }
 
     /// So many passes of one call.

@@ -1,7 +1,7 @@
 //! The static library, linked. The only unsafe code of this package.
 #![allow(unsafe_code)]
 
-use super::Answer;
+use super::question::{Numbers, Question, Reply, Symbol, UNWRITTEN};
 
 extern "C" {
     fn petalbuzz_judge(file: *const u8, len: usize, verdict: *mut u32, place: *mut u32);
@@ -14,6 +14,55 @@ extern "C" {
         six: *mut [f64; 6],
         corners: *mut [f64; 4],
     );
+    fn petalbuzz_rows(
+        file: *const u8,
+        len: usize,
+        rows: *mut [u32; 4],
+        room: usize,
+        verdict: *mut u32,
+        place: *mut u32,
+        keys: *mut u32,
+    );
+    fn petalbuzz_citation(
+        file: *const u8,
+        len: usize,
+        key: u32,
+        verdict: *mut u32,
+        place: *mut u32,
+        start: *mut usize,
+        length: *mut usize,
+    );
+    fn petalbuzz_metadata(
+        file: *const u8,
+        len: usize,
+        outside: *const u8,
+        outside_len: usize,
+        verdict: *mut u32,
+        place: *mut u32,
+        from: *mut u32,
+        start: *mut usize,
+        length: *mut usize,
+    );
+    fn petalbuzz_key_block(
+        file: *const u8,
+        len: usize,
+        out: *mut u8,
+        room: usize,
+        verdict: *mut u32,
+        place: *mut u32,
+        lengths: *mut [usize; 3],
+    );
+    fn petalbuzz_read_block(
+        directory: *const u8,
+        directory_len: usize,
+        doubles: *const u8,
+        doubles_len: usize,
+        characters: *const u8,
+        characters_len: usize,
+        verdict: *mut u32,
+        place: *mut u32,
+        keys: *mut u32,
+    );
 }
 
 /// The memory that `petalbuzz_ground` writes.
@@ -24,17 +73,6 @@ pub struct Raw {
     pub form: u32,
     pub six: [f64; 6],
     pub corners: [f64; 4],
-}
-
-/// What no call gives, to see that every number is written.
-const UNWRITTEN: u32 = 0xA5A5_A5A5;
-
-impl Default for Raw {
-    fn default() -> Self {
-        let double = f64::from_bits(0xA5A5_A5A5_A5A5_A5A5);
-        let (verdict, place, form) = (UNWRITTEN, UNWRITTEN, UNWRITTEN);
-        Raw { verdict, place, form, six: [double; 6], corners: [double; 4] }
-    }
 }
 
 #[inline]
@@ -62,24 +100,48 @@ pub fn verdict_of(file: &[u8]) -> (u32, u32) {
     (verdict, place)
 }
 
-/// The answers of `petalbuzz_ground` on these files.
-pub fn ground(files: &[&[u8]]) -> Vec<Answer> {
-    files.iter().map(|file| one(file)).collect()
+/// The replies of the library to these questions.
+pub fn ask(questions: &[Question]) -> Vec<Reply> {
+    questions.iter().map(reply).collect()
 }
 
-fn one(file: &[u8]) -> Answer {
-    let mut raw = Raw::default();
-    ground_into(file, &mut raw);
-    Answer {
-        verdict: raw.verdict,
-        place: raw.place,
-        form: raw.form,
-        six: raw.six.map(f64::to_bits),
-        corners: raw.corners.map(f64::to_bits),
+/// The reply to one question. All that is lent lies in one run of words, so
+/// that the memory at its start is aligned for rows.
+fn reply(question: &Question) -> Reply {
+    let mut bytes = question.bytes();
+    let length = bytes.len();
+    bytes.resize(length.next_multiple_of(8) + 8, 0);
+    let word = |bytes: &[u8]| u64::from_ne_bytes(bytes.try_into().expect("eight bytes"));
+    let mut words: Vec<u64> = bytes.chunks_exact(8).map(word).collect();
+    let mut numbers = Numbers::default();
+    // SAFETY: the words hold the memory and then the runs, by their lengths
+    unsafe { call(question, words.as_mut_ptr().cast(), &mut numbers) };
+    let mut bytes: Vec<u8> = words.iter().flat_map(|word| word.to_ne_bytes()).collect();
+    bytes.truncate(length);
+    Reply { numbers, bytes }
+}
+
+/// Makes the call that is asked.
+///
+/// # Safety
+/// `lent` points to the memory and the runs of the question, one behind the
+/// other, at an address for words; nobody else uses them.
+unsafe fn call(question: &Question, lent: *mut u8, numbers: &mut Numbers) {
+    let [one, two, three] = question.runs.map(<[u8]>::len);
+    let (out, room) = (lent.add(question.margin), question.room().len());
+    let first = lent.add(question.memory.len()).cast_const();
+    let second = first.add(one);
+    let third = second.add(two);
+    let (v, p, t) = (&mut numbers.verdict, &mut numbers.place, &mut numbers.third);
+    let wide = numbers.wide.as_mut_ptr();
+    let (start, length): (*mut usize, *mut usize) = (wide.cast(), wide.add(1).cast());
+    match question.symbol {
+        Symbol::Judge => petalbuzz_judge(first, one, v, p),
+        Symbol::Ground => petalbuzz_ground(first, one, v, p, t, wide.cast(), wide.add(6).cast()),
+        Symbol::Rows => petalbuzz_rows(first, one, out.cast(), room / 16, v, p, t),
+        Symbol::Citation => petalbuzz_citation(first, one, question.key, v, p, start, length),
+        Symbol::Metadata => petalbuzz_metadata(first, one, second, two, v, p, t, start, length),
+        Symbol::KeyBlock => petalbuzz_key_block(first, one, out, room, v, p, wide.cast()),
+        Symbol::ReadBlock => petalbuzz_read_block(first, one, second, two, third, three, v, p, t),
     }
-}
-
-/// Verdict and place of `petalbuzz_judge` on these files.
-pub fn judge_verdict(files: &[&[u8]]) -> Vec<(u32, u32)> {
-    files.iter().map(|file| verdict_of(file)).collect()
 }

@@ -1,13 +1,10 @@
-//! The C host, asked over a pipe: frames in, records of fixed size out.
+//! The C host, asked over a pipe: a frame for each question, and for each its
+//! numbers and the lent bytes back. `host/host.c` says how a frame looks.
 
-use super::Answer;
+use super::question::{Numbers, Question, Reply};
 use std::io::{Read, Write};
 use std::path::Path;
 use std::process::{Command, Stdio};
-
-/// The sizes of the host's records.
-const GROUND: usize = 96;
-const JUDGE: usize = 8;
 
 /// The path of the host's runner; it must be newer than the library.
 fn runner() -> std::path::PathBuf {
@@ -28,62 +25,50 @@ fn runner() -> std::path::PathBuf {
     run
 }
 
-/// One record of `size` bytes for each file, from the call of this name.
-fn served(call: &str, size: usize, files: &[&[u8]]) -> Vec<u8> {
+/// A question as one frame: its head, then all that it lends.
+fn frame(question: &Question) -> Vec<u8> {
+    let [one, two, three] = question.runs.map(<[u8]>::len);
+    let number = |length: usize| u32::try_from(length).expect("a run of at most 4 GiB");
+    let sizes = [question.margin, question.memory.len(), one, two, three].map(number);
+    let head = [&[question.symbol as u32, question.key], &sizes[..]].concat();
+    let mut bytes: Vec<u8> = head.iter().flat_map(|number| number.to_le_bytes()).collect();
+    bytes.extend(question.bytes());
+    bytes
+}
+
+/// Everything that the host answers to these questions.
+fn served(questions: &[Question]) -> Vec<u8> {
     let run = runner();
     let mut child = Command::new(&run)
-        .args(["--serve", call])
+        .arg("--serve")
         .stdin(Stdio::piped())
         .stdout(Stdio::piped())
         .spawn()
         .unwrap_or_else(|why| panic!("{} does not start: {why}", run.display()));
     let mut input = child.stdin.take().expect("piped");
     let mut output = child.stdout.take().expect("piped");
-    let mut records = Vec::with_capacity(size * files.len());
+    let mut answers = Vec::new();
     std::thread::scope(|scope| {
-        scope.spawn(move || {
-            for file in files {
-                let length = u32::try_from(file.len()).expect("a frame of at most 4 GiB");
-                // a host that has died is named below
-                let head = input.write_all(&length.to_le_bytes());
-                if head.and_then(|()| input.write_all(file)).is_err() {
-                    break;
-                }
-            }
-        });
-        output.read_to_end(&mut records).expect("the host's records");
+        // a host that has died is named below
+        scope.spawn(move || questions.iter().try_for_each(|asked| input.write_all(&frame(asked))));
+        output.read_to_end(&mut answers).expect("the host's answers");
     });
     let status = child.wait().expect("the host's status");
     assert!(status.success(), "out/host stopped with {status}");
-    assert_eq!(records.len(), size * files.len(), "one record a file");
-    records
+    answers
 }
 
-fn word(record: &[u8], at: usize) -> u32 {
-    u32::from_le_bytes(record[at..at + 4].try_into().expect("four bytes"))
-}
-
-fn double<const N: usize>(record: &[u8], at: usize) -> [u64; N] {
-    std::array::from_fn(|i| {
-        let from = at + 8 * i;
-        u64::from_le_bytes(record[from..from + 8].try_into().expect("eight bytes"))
-    })
-}
-
-/// The answers of `petalbuzz_ground` on these files.
-pub fn ground(files: &[&[u8]]) -> Vec<Answer> {
-    let answer = |record: &[u8]| Answer {
-        verdict: word(record, 0),
-        place: word(record, 4),
-        form: word(record, 8),
-        six: double(record, 16),
-        corners: double(record, 64),
-    };
-    served("ground", GROUND, files).chunks_exact(GROUND).map(answer).collect()
-}
-
-/// Verdict and place of `petalbuzz_judge` on these files.
-pub fn judge_verdict(files: &[&[u8]]) -> Vec<(u32, u32)> {
-    let pair = |record: &[u8]| (word(record, 0), word(record, 4));
-    served("judge", JUDGE, files).chunks_exact(JUDGE).map(pair).collect()
+/// The replies of the library to these questions.
+pub fn ask(questions: &[Question]) -> Vec<Reply> {
+    let answers = served(questions);
+    let mut rest = &answers[..];
+    let mut replies = Vec::with_capacity(questions.len());
+    for question in questions {
+        let (numbers, after) = rest.split_first_chunk().expect("a record to each frame");
+        let (bytes, after) = after.split_at(question.length());
+        replies.push(Reply { numbers: Numbers::read(numbers), bytes: bytes.to_vec() });
+        rest = after;
+    }
+    assert!(rest.is_empty(), "one answer a frame");
+    replies
 }

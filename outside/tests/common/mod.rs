@@ -1,9 +1,13 @@
 //! File A of document 01 by its bytes, and what several tests share.
 #![allow(dead_code)]
 
+pub mod held;
+pub mod questions;
+
 use outside::generator::keyplan::Encoded;
 use outside::generator::plan::{Plan, Tag};
-use outside::reader::{Order, Row, Verdict};
+use outside::generator::prng::Random;
+use outside::reader::{listed, Order, Row, Verdict};
 
 /// File A, byte by byte: 270 bytes, little-endian.
 pub const FILE_A: [u8; 270] = [
@@ -82,4 +86,12 @@ pub fn plan_like_a(order: Order, keys: &Encoded) -> Plan {
     plan.set(Tag::doubles(33922, &[0.0, 0.0, 0.0, 500_000.0, 4_000_000.0, 0.0]));
     plan.set_keys(keys);
     plan
+}
+
+/// The file with every byte off its reading list drawn anew.
+pub fn repainted(file: &[u8], random: &mut Random) -> Vec<u8> {
+    let list = listed(file);
+    let fresh = random.bytes(file.len());
+    let byte = |at: usize| if list[at] { file[at] } else { fresh[at] };
+    (0..file.len()).map(byte).collect()
 }

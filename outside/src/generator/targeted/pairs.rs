@@ -1,8 +1,9 @@
-//! Two rules broken at once in one file: the one of lower number is named.
+//! Two rules broken at once in one file: the one of lower number is named. And
+//! tags of rule 12 at fault together: the lowest is named.
 
 use super::bases::Bases;
 use super::Cases;
-use crate::generator::plan::Laid;
+use crate::generator::plan::{Laid, Plan, Tag};
 
 /// A clause, its place, and how to break it without touching the others.
 type Damage = (&'static str, u32, fn(&mut Laid));
@@ -40,7 +41,48 @@ fn put_key(laid: &mut Laid, position: usize, column: usize, number: u16) {
     laid.put_short(laid.spot(34735).value + 8 + 8 * position + 2 * column, number);
 }
 
+/// A tag of rule 12, two clauses that it can break, and how to break each in a
+/// file of three samples and five strips without mending the others.
+type Disagreement = (u32, [&'static str; 2], fn(&mut Plan, usize));
+
+const DISAGREEMENTS: [Disagreement; 4] = [
+    (258, ["12 258 count is not samples", "12 258 values differ"], |plan, way| {
+        plan.set(Tag::shorts(258, [&[8, 8][..], &[8, 8, 16]][way]));
+    }),
+    (259, ["12 259 is 2, bits not 1", "12 259 is 32773, bits not 1"], |plan, way| {
+        plan.set(Tag::shorts(259, &[[2, 32_773][way]]));
+    }),
+    (273, ["12 273 too few", "12 273 too many"], |plan, way| plan.find(273).count = [4, 6][way]),
+    (279, ["12 279 too few", "12 279 too many"], |plan, way| {
+        plan.set(Tag::longs(279, &vec![1; [4, 6][way]]));
+    }),
+];
+
 pub fn cases(bases: &mut Bases, cases: &mut Cases) {
+    rules_together(bases, cases);
+    tags_together(bases, cases);
+}
+
+/// Every choice of two, three or four of rule 12's tags, each in both ways; the
+/// bits of `chosen` say which tags, those of `ways` in which way.
+fn tags_together(bases: &mut Bases, cases: &mut Cases) {
+    for chosen in (1_usize..16).filter(|chosen| chosen.count_ones() > 1) {
+        for ways in (0..16).filter(|ways| ways & !chosen == 0) {
+            let mut plan = bases.rich();
+            plan.set(Tag::longs(257, &[9]));
+            plan.set_strips(&[12, 9, 7, 5, 3], (true, true));
+            for at in (0..4).filter(|at| chosen >> at & 1 == 1) {
+                DISAGREEMENTS[at].2(&mut plan, ways >> at & 1);
+            }
+            let lowest = chosen.trailing_zeros() as usize;
+            let (tag, clauses, _) = DISAGREEMENTS[lowest];
+            cases.broken(clauses[ways >> lowest & 1], plan.lay().bytes, tag);
+        }
+    }
+}
+
+/// Each rule with itself alone, and with each later one.
+fn rules_together(bases: &mut Bases, cases: &mut Cases) {
     for (at, (clause, place, first)) in DAMAGES.iter().enumerate() {
         for (_, _, second) in &DAMAGES[at..] {
             let mut laid = bases.rich().lay();

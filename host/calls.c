@@ -1,0 +1,103 @@
+/* calls: asks every call of petalbuzz.h about the file on standard input and
+ * prints the answers; then again with a null pointer in each place of a run,
+ * with a length beside it that must not count. It is C and C++ alike. */
+#include "../include/petalbuzz.h"
+#include <stdio.h>
+#include <string.h>
+#include <unistd.h>
+
+enum { ROWS = 257, UNTOUCHED = 0x77 };
+
+static uint8_t file[1 << 16], out[1 << 16];
+static size_t len;
+static petalbuzz_row rows[ROWS];
+
+static void print_part(const char *what, petalbuzz_part a) {
+    printf("%s %u %u from %u at %zu '%.*s'\n", what, a.verdict, a.place, a.from, a.start,
+           (int)a.length, (const char *)a.text);
+}
+
+static void print_counted(const char *what, petalbuzz_counted a) {
+    printf("%s %u %u keys %u\n", what, a.verdict, a.place, a.keys);
+}
+
+static void ask_ground(const void *from) {
+    petalbuzz_judged a = petalbuzz_judge_file(from, len);
+    petalbuzz_grounded b = petalbuzz_ground_file(from, len);
+    printf("judge %u %u\nground %u %u form %u", a.verdict, a.place, b.verdict, b.place, b.form);
+    for (int i = 0; i < 6; i++) printf(" %.1f", b.six[i]);
+    printf(" corners");
+    for (int i = 0; i < 4; i++) printf(" %.1f", b.corners[i]);
+    printf("\n");
+}
+
+/* Prints the rows up to the last one that the call has changed. */
+static void ask_rows(const void *from, petalbuzz_row *to, size_t room) {
+    size_t end = 0;
+    memset(rows, UNTOUCHED, sizeof rows);
+    print_counted("rows", petalbuzz_rows_file(from, len, to, room));
+    for (size_t i = 0; i < sizeof rows; i++)
+        if (((const uint8_t *)rows)[i] != UNTOUCHED) end = i / sizeof rows[0] + 1;
+    for (size_t i = 0; i < end; i++)
+        printf("  %u %u %u %u\n", rows[i].key, rows[i].kind, rows[i].first, rows[i].length);
+}
+
+/* Prints how many bytes the call has changed, up to the last one. */
+static petalbuzz_block ask_block(const void *from, uint8_t *to, size_t room) {
+    size_t end = 0;
+    memset(out, UNTOUCHED, sizeof out);
+    petalbuzz_block a = petalbuzz_key_block_file(from, len, to, room);
+    for (size_t i = 0; i < sizeof out; i++)
+        if (out[i] != UNTOUCHED) end = i + 1;
+    printf("block %u %u lengths %zu %zu %zu written %zu\n", a.verdict, a.place, a.lengths[0],
+           a.lengths[1], a.lengths[2], end);
+    return a;
+}
+
+/* Writes the block and reads it back, without one of its runs too; then
+ * writes it with just enough room, with one byte less and with none. */
+static void ask_blocks(void) {
+    petalbuzz_block a = ask_block(file, out, sizeof out);
+    size_t one = a.lengths[0], two = a.lengths[1], three = a.lengths[2];
+    size_t needed = one + two + three;
+    const uint8_t *second = out + one, *third = second + two;
+    print_counted("back", petalbuzz_read_block_runs(out, one, second, two, third, three));
+    print_counted("no directory", petalbuzz_read_block_runs(0, one, second, two, third, three));
+    print_counted("no doubles", petalbuzz_read_block_runs(out, one, 0, 99, third, three));
+    print_counted("no characters", petalbuzz_read_block_runs(out, one, second, two, 0, 99));
+    print_counted("no runs", petalbuzz_read_block_runs(0, one, 0, 99, 0, 99));
+    ask_block(file, out, needed);
+    ask_block(file, out, needed > 0 ? needed - 1 : 0);
+    ask_block(file, 0, sizeof out);
+}
+
+static void ask_texts(void) {
+    static const uint32_t keys[] = {1024, 1026, 2049, 3073, 4097, 65536 + 1026};
+    for (size_t i = 0; i < sizeof keys / sizeof keys[0]; i++)
+        print_part("citation", petalbuzz_citation_file(file, len, keys[i]));
+    print_part("metadata", petalbuzz_metadata_file(file, len, "outside", 7));
+    print_part("metadata", petalbuzz_metadata_file(file, len, 0, 7));
+}
+
+/* Every call on a null pointer for the file: an empty file. */
+static void ask_nothing(void) {
+    ask_ground(0);
+    ask_rows(0, rows, ROWS);
+    print_part("citation", petalbuzz_citation_file(0, len, 1026));
+    print_part("metadata", petalbuzz_metadata_file(0, len, "outside", 7));
+    ask_block(0, out, sizeof out);
+}
+
+int main(void) {
+    ssize_t n = read(0, file, sizeof file);
+    if (n < 0) return 2;
+    len = (size_t)n;
+    ask_ground(file);
+    ask_rows(file, rows, ROWS);
+    ask_rows(file, rows, 2);
+    ask_rows(file, 0, ROWS);
+    ask_texts();
+    ask_blocks();
+    ask_nothing();
+    return 0;
+}

@@ -1,0 +1,220 @@
+/* What the numbers mean: a sentence for each rule, in document 01's words, and
+ * the names of tags and keys. Nothing here looks at a file. */
+#ifndef HOST_WORDS_H
+#define HOST_WORDS_H
+
+#include "files.h"
+#include <stdint.h>
+
+/* What is said of a tag or key beside its name, by rule: of 10 and 17, 11 and
+ * 19, 12 and 18 and 21. */
+enum column { FORM, ALLOWED, FAULT, COLUMNS };
+
+struct thing {
+    uint32_t number;
+    const char *name;
+    const char *says[COLUMNS];
+};
+
+#define STRIPS "its count is not length / rows per strip, rounded up"
+#define MATRIX                                                                                     \
+    "a double is not finite, the last four do not compare equal to 0, 0, 0, 1, or the products "   \
+    "(1st x 6th) and (2nd x 5th), each rounded to a double, compare equal"
+
+/* Tags by their names in TIFF 6.0, GeoTIFF and DGIWG 108, with document 01's
+ * table; the last row is any other tag. */
+static const struct thing tags[] = {
+    {254, "NewSubfileType", {0}},
+    {256, "ImageWidth", {"type SHORT or LONG, count 1", "1 to 1,000,000"}},
+    {257, "ImageLength", {"type SHORT or LONG, count 1", "1 to 1,000,000"}},
+    {258, "BitsPerSample", {"type SHORT, count 1 or more", "each 1, 8, 16 or 32",
+        "its count differs from samples or its values differ among themselves"}},
+    {259, "Compression", {"type SHORT, count 1", "1, 2 or 32773",
+        "it is 2 or 32773 and bits or samples is not 1"}},
+    {262, "PhotometricInterpretation", {"type SHORT, count 1", "0 to 3"}},
+    {266, "FillOrder", {0}},
+    {269, "DocumentName", {0}},
+    {270, "ImageDescription", {0}},
+    {271, "Make", {0}},
+    {272, "Model", {0}},
+    {273, "StripOffsets", {"type SHORT or LONG, count 1 or more", NULL, STRIPS}},
+    {274, "Orientation", {0}},
+    {277, "SamplesPerPixel", {"type SHORT, count 1", "1 to 8"}},
+    {278, "RowsPerStrip", {"type SHORT or LONG, count 1", "1 or more"}},
+    {279, "StripByteCounts", {"type SHORT or LONG, count 1 or more", NULL, STRIPS}},
+    {280, "MinSampleValue", {0}},
+    {281, "MaxSampleValue", {0}},
+    {282, "XResolution", {0}},
+    {283, "YResolution", {0}},
+    {284, "PlanarConfiguration", {"type SHORT, count 1", "1"}},
+    {296, "ResolutionUnit", {0}},
+    {305, "Software", {0}},
+    {306, "DateTime", {0}},
+    {315, "Artist", {0}},
+    {316, "HostComputer", {0}},
+    {320, "ColorMap", {0}},
+    {322, "TileWidth", {0}},
+    {323, "TileLength", {0}},
+    {324, "TileOffsets", {0}},
+    {325, "TileByteCounts", {0}},
+    {338, "ExtraSamples", {0}},
+    {339, "SampleFormat", {0}},
+    {33432, "Copyright", {0}},
+    {33550, "ModelPixelScaleTag", {"type DOUBLE, count 3", NULL,
+        "a double is not finite, or scale X or Y is not above 0"}},
+    {33922, "ModelTiepointTag", {"type DOUBLE, count 6", NULL, "a double is not finite"}},
+    {34264, "ModelTransformationTag", {"type DOUBLE, count 16", NULL, MATRIX}},
+    {34735, "GeoKeyDirectoryTag", {"type SHORT, count 4 or more"}},
+    {34736, "GeoDoubleParamsTag", {"type DOUBLE, count 1 or more"}},
+    {34737, "GeoAsciiParamsTag", {"type ASCII, count 1 or more"}},
+    {42113, "GDAL_NODATA", {0}},
+    {50909, "GEO_METADATA", {"type BYTE, count 1 or more"}},
+    {0, NULL, {0}},
+};
+
+#define WITHIN "index + count at most the tag's count"
+#define SHORT_KEY "location 0, count 1"
+#define DOUBLE_KEY "location 34736, count 1, " WITHIN
+#define ASCII_KEY "location 34737, count 1 or more, " WITHIN ", last character \"|\""
+#define OTHER_KEY                                                                                  \
+    "location 0, count 1; or location 34735, 34736 or 34737, count 1 or more, " WITHIN
+
+/* The 45 keys by their names in DGIWG 108; the last row is any other key. */
+static const struct thing keys[] = {
+    {1024, "GTModelTypeGeoKey", {SHORT_KEY, "1 or 2"}},
+    {1025, "GTRasterTypeGeoKey", {SHORT_KEY, "1 or 2"}},
+    {1026, "GTCitationGeoKey", {ASCII_KEY}},
+    {2048, "GeographicTypeGeoKey", {SHORT_KEY, "4326", "as key 1024 is 2"}},
+    {2049, "GeogCitationGeoKey", {ASCII_KEY}},
+    {2050, "GeogGeodeticDatumGeoKey", {SHORT_KEY}},
+    {2051, "GeogPrimeMeridianGeoKey", {SHORT_KEY}},
+    {2052, "GeogLinearUnitsGeoKey", {SHORT_KEY}},
+    {2053, "GeogLinearUnitSizeGeoKey", {DOUBLE_KEY}},
+    {2054, "GeogAngularUnitsGeoKey", {SHORT_KEY, "9102"}},
+    {2055, "GeogAngularUnitSizeGeoKey", {DOUBLE_KEY}},
+    {2056, "GeogEllipsoidGeoKey", {SHORT_KEY}},
+    {2057, "GeogSemiMajorAxisGeoKey", {DOUBLE_KEY}},
+    {2058, "GeogSemiMinorAxisGeoKey", {DOUBLE_KEY}},
+    {2059, "GeogInvFlatteningGeoKey", {DOUBLE_KEY}},
+    {2060, "GeogAzimuthUnitsGeoKey", {SHORT_KEY}},
+    {2061, "GeogPrimeMeridianLongGeoKey", {DOUBLE_KEY}},
+    {3072, "ProjectedCSTypeGeoKey", {SHORT_KEY, "32601-32661 or 32701-32761", "as key 1024 is 1"}},
+    {3073, "PCSCitationGeoKey", {ASCII_KEY}},
+    {3074, "ProjectionGeoKey", {SHORT_KEY}},
+    {3075, "ProjCoordTransGeoKey", {SHORT_KEY}},
+    {3076, "ProjLinearUnitsGeoKey", {SHORT_KEY, "9001"}},
+    {3077, "ProjLinearUnitSizeGeoKey", {DOUBLE_KEY}},
+    {3078, "ProjStdParallel1GeoKey", {DOUBLE_KEY}},
+    {3079, "ProjStdParallel2GeoKey", {DOUBLE_KEY}},
+    {3080, "ProjNatOriginLongGeoKey", {DOUBLE_KEY}},
+    {3081, "ProjNatOriginLatGeoKey", {DOUBLE_KEY}},
+    {3082, "ProjFalseEastingGeoKey", {DOUBLE_KEY}},
+    {3083, "ProjFalseNorthingGeoKey", {DOUBLE_KEY}},
+    {3084, "ProjFalseOriginLongGeoKey", {DOUBLE_KEY}},
+    {3085, "ProjFalseOriginLatGeoKey", {DOUBLE_KEY}},
+    {3086, "ProjFalseOriginEastingGeoKey", {DOUBLE_KEY}},
+    {3087, "ProjFalseOriginNorthingGeoKey", {DOUBLE_KEY}},
+    {3088, "ProjCenterLongGeoKey", {DOUBLE_KEY}},
+    {3089, "ProjCenterLatGeoKey", {DOUBLE_KEY}},
+    {3090, "ProjCenterEastingGeoKey", {DOUBLE_KEY}},
+    {3091, "ProjCenterNorthingGeoKey", {DOUBLE_KEY}},
+    {3092, "ProjScaleAtNatOriginGeoKey", {DOUBLE_KEY}},
+    {3093, "ProjScaleAtCenterGeoKey", {DOUBLE_KEY}},
+    {3094, "ProjAzimuthAngleGeoKey", {DOUBLE_KEY}},
+    {3095, "ProjStraightVertPoleLongGeoKey", {DOUBLE_KEY}},
+    {4096, "VerticalCSTypeGeoKey", {SHORT_KEY, "3855, 4979, 5714, 5715, 5773 or 5798"}},
+    {4097, "VerticalCitationGeoKey", {ASCII_KEY}},
+    {4098, "VerticalDatumGeoKey", {SHORT_KEY}},
+    {4099, "VerticalUnitsGeoKey", {SHORT_KEY}},
+    {0, NULL, {OTHER_KEY}},
+};
+
+/* Kinds of keys, and the two forms of a georeference with their six numbers. */
+static const char *const kind_names[] = {"SHORT", "DOUBLE", "ASCII", "other"};
+static const char *const form_names[] = {"scaled", "affine"};
+static const char *const six_names[][6] = {{"ti", "tj", "tx", "ty", "sx", "sy"},
+                                           {"m1", "m2", "m4", "m5", "m6", "m8"}};
+
+/* What a rule's place is the number of. */
+struct noun {
+    const char *word;
+    const struct thing *named; /* null: it has no name */
+};
+static const struct noun a_tag = {"tag", tags}, a_strip = {"strip", NULL}, a_key = {"key", keys};
+
+/* The sentence of a rule: its place, what is wrong there, and, behind a joint,
+ * what is said of that very tag or key. */
+static const struct rule {
+    const struct noun *place; /* null: it has none */
+    const char *wrong;
+    const char *joint; /* null: no more is said */
+    enum column more;
+} rules[] = {
+    [0] = {.wrong = "accepted"},
+    [1] = {.wrong = "the file's length is below 8 or above 4,294,967,295"},
+    [2] = {.wrong = "bytes 0-1 are neither order, 49 49 or 4D 4D"},
+    [3] = {.wrong = "the number in bytes 2-3 is not 42"},
+    [4] = {.wrong = "the directory offset is odd, below 8, or offset + 2 exceeds the file's "
+                    "length"},
+    [5] = {.wrong = "the directory's count is 0 or above 1,024, or the directory ends past the end "
+                    "of the file"},
+    [6] = {&a_tag, .wrong = "is not greater than the one before"},
+    [7] = {&a_tag, .wrong = "has count 0, or its value of more than 4 bytes starts odd, below 8, "
+                            "or ends past the end of the file"},
+    [8] = {.wrong = "the next offset is not 0"},
+    [9] = {&a_tag, .wrong = "is needed and absent"},
+    [10] = {&a_tag, "has another type or count", "; right: ", FORM},
+    [11] = {&a_tag, "has a value that is not allowed", "; allowed: ", ALLOWED},
+    [12] = {&a_tag, "disagrees with other tags", ": ", FAULT},
+    [13] = {&a_strip, .wrong = "has byte count 0, an offset below 8, or ends past the end of the "
+                               "file"},
+    [14] = {&a_strip, .wrong = "shares a byte with the reading list: the head, the directory and "
+                               "the values of the table's tags"},
+    [15] = {.wrong = "the key directory's first three numbers are not 1, 1, 0, or the fourth, K, "
+                     "exceeds 256, or the tag's count is below 4 + 4K"},
+    [16] = {&a_key, .wrong = "is not greater than the one before"},
+    [17] = {&a_key, "has a wrong location, count or value index", "; right: ", FORM},
+    [18] = {&a_key, "is needed and absent", ", ", FAULT},
+    [19] = {&a_key, "has a value that is not allowed", "; allowed: ", ALLOWED},
+    [20] = {.wrong = "the file has neither scale and tiepoint with no matrix, nor matrix with no "
+                     "scale and no tiepoint"},
+    [21] = {&a_tag, "cannot place the picture on the ground", ": ", FAULT},
+    [22] = {.wrong = "a corner coordinate is not finite"},
+};
+enum { RULES = sizeof rules / sizeof rules[0], SENTENCE = 512 };
+
+/* The row of a number, or the last one. */
+static const struct thing *find(const struct thing *row, uint32_t number) {
+    while (row->name && row->number != number) row++;
+    return row;
+}
+
+/* Writes the sentence of a rule, for any place. */
+static void say_rule(char sentence[SENTENCE], uint32_t verdict) {
+    if (verdict >= RULES)
+        snprintf(sentence, SENTENCE, "rule %u is broken", verdict);
+    else if (!rules[verdict].place)
+        snprintf(sentence, SENTENCE, "%s", rules[verdict].wrong);
+    else
+        snprintf(sentence, SENTENCE, "a %s %s", rules[verdict].place->word, rules[verdict].wrong);
+}
+
+/* Writes the sentence of a rule, for one place. */
+static void say(char sentence[SENTENCE], uint32_t verdict, uint32_t place) {
+    if (verdict >= RULES || !rules[verdict].place) {
+        say_rule(sentence, verdict);
+        return;
+    }
+    const struct rule *rule = &rules[verdict];
+    const char *name = NULL, *more = NULL;
+    if (rule->place->named) {
+        const struct thing *row = find(rule->place->named, place);
+        name = row->name;
+        if (rule->joint) more = row->says[rule->more];
+    }
+    snprintf(sentence, SENTENCE, "%s %u%s%s%s %s%s%s", rule->place->word, place, name ? " (" : "",
+             name ? name : "", name ? ")" : "", rule->wrong, more ? rule->joint : "",
+             more ? more : "");
+}
+
+#endif

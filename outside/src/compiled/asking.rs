@@ -1,0 +1,72 @@
+//! Questions to ask: every call on a file, around the sizes that it needs.
+
+use super::question::{Question, Symbol};
+use crate::generator::prng::Random;
+use crate::reader::{judge, key_block};
+
+/// Bytes at either end of lent memory; rows begin at a multiple of 4.
+const MARGIN: usize = 32;
+
+/// Memory to lend: all 0, all FF, or drawn.
+fn memory(length: usize, random: &mut Random) -> Vec<u8> {
+    match random.below(4) {
+        0 => vec![0; length],
+        1 => vec![0xFF; length],
+        _ => random.bytes(length),
+    }
+}
+
+/// The rows call with so many rows lent.
+pub fn rows<'a>(file: &'a [u8], lent: usize, random: &mut Random) -> Question<'a> {
+    let memory = memory(16 * lent + 2 * MARGIN, random);
+    Question::on(Symbol::Rows, file).lending(memory, MARGIN)
+}
+
+/// The key block with so many bytes lent, at any address.
+pub fn block<'a>(file: &'a [u8], room: usize, random: &mut Random) -> Question<'a> {
+    let margin = MARGIN + random.below(8) as usize;
+    Question::on(Symbol::KeyBlock, file).lending(memory(room + 2 * margin, random), margin)
+}
+
+pub fn citation(file: &[u8], key: u32) -> Question<'_> {
+    Question { key, ..Question::on(Symbol::Citation, file) }
+}
+
+pub fn metadata<'a>(file: &'a [u8], outside: &'a [u8]) -> Question<'a> {
+    Question { runs: [file, outside, &[]], ..Question::on(Symbol::Metadata, file) }
+}
+
+pub fn read_block<'a>(runs: &'a [Vec<u8>; 3]) -> Question<'a> {
+    let [directory, doubles, characters] = runs;
+    Question { runs: [directory, doubles, characters], ..Question::on(Symbol::ReadBlock, &[]) }
+}
+
+/// K of a file, and the bytes of its key block; 0 where it has none.
+pub fn needs(file: &[u8]) -> (usize, usize) {
+    let verdict = key_block(file, &mut []).verdict;
+    (judge(file).keys as usize, if verdict.number == 25 { verdict.place as usize } else { 0 })
+}
+
+/// The sizes just around a needed one, and some others.
+fn around(needed: usize, others: &[usize]) -> Vec<usize> {
+    let mut sizes = vec![0, 1, needed.saturating_sub(1), needed, needed + 1];
+    sizes.extend(others);
+    sizes.sort_unstable();
+    sizes.dedup();
+    sizes
+}
+
+/// Key numbers of every sort: ASCII ones, others, and some beyond 16 bits.
+const ASKED: [u32; 12] =
+    [0, 1024, 1026, 2049, 2057, 3073, 4097, 60_003, 65_535, 65_536 + 1026, 1 << 31, u32::MAX];
+
+/// Questions of every call on a file, around the sizes that it needs.
+pub fn every_call<'a>(file: &'a [u8], random: &mut Random) -> Vec<Question<'a>> {
+    let (keys, bytes) = needs(file);
+    let mut list = vec![Question::on(Symbol::Judge, file), Question::on(Symbol::Ground, file)];
+    list.extend(around(keys, &[255, 256, 257]).iter().map(|&lent| rows(file, lent, random)));
+    list.extend(around(bytes, &[bytes + 60]).iter().map(|&room| block(file, room, random)));
+    list.extend(ASKED.map(|key| citation(file, key)));
+    list.extend([&b""[..], b"<", b"an outside text"].map(|outside| metadata(file, outside)));
+    list
+}

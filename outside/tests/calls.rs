@@ -1,0 +1,165 @@
+//! Every call of the compiled library against the second reader: all numbers
+//! and every lent byte, with the bytes around the memory that is lent.
+
+mod common;
+
+use common::questions::{accepted, agree};
+use common::{repainted, FILE_A};
+use outside::compiled::asking::{block, citation, every_call, metadata, needs, read_block, rows};
+use outside::compiled::{ask, Question, Symbol};
+use outside::generator::prng::Random;
+use outside::generator::{random, sample, targeted, Call, Case};
+use outside::reader::judge;
+use outside::reader::tables::KEYS;
+use std::collections::BTreeMap;
+
+/// Files are asked about in runs of so many.
+const RUN: usize = 200;
+
+fn every_call_agrees(files: &[Vec<u8>], seed: u64) {
+    let mut random = Random::new(seed);
+    for run in files.chunks(RUN) {
+        let questions = run.iter().flat_map(|file| every_call(file, &mut random));
+        agree(&questions.collect::<Vec<Question>>());
+    }
+}
+
+#[test]
+fn every_call_agrees_on_generated_files() {
+    let files = random(61, 8_000).into_iter().map(|sample| sample.file);
+    every_call_agrees(&files.collect::<Vec<_>>(), 61);
+}
+
+#[test]
+fn every_call_agrees_on_files_of_real_producers() {
+    let folder = concat!(env!("CARGO_MANIFEST_DIR"), "/field");
+    let entries = std::fs::read_dir(folder).expect("the folder of these files");
+    let paths = entries.map(|entry| entry.expect("an entry of the folder").path());
+    let files: Vec<Vec<u8>> = paths.map(|path| std::fs::read(path).expect("a file")).collect();
+    assert!(files.len() > 50, "{} files", files.len());
+    every_call_agrees(&files, 75);
+}
+
+/// The question of a targeted case.
+fn asked<'a>(case: &'a Case, random: &mut Random) -> Question<'a> {
+    match &case.call {
+        Call::Judge => Question::on(Symbol::Judge, &case.file),
+        Call::Rows(lent) => rows(&case.file, *lent, random),
+        Call::Citation(key) => citation(&case.file, *key),
+        Call::Block(room) => block(&case.file, *room, random),
+        Call::ReadBlock(runs) => read_block(runs),
+    }
+}
+
+/// The targeted cases by their own calls; the second reader gives what they
+/// must give by construction, and the library the same.
+#[test]
+fn the_targeted_cases_agree() {
+    let mut random = Random::new(62);
+    for run in targeted(62).chunks(RUN) {
+        assert!(run.iter().all(|case| case.answer().0 == case.want));
+        agree(&run.iter().map(|case| asked(case, &mut random)).collect::<Vec<_>>());
+    }
+}
+
+#[test]
+fn every_call_agrees_on_the_targeted_files() {
+    let files: Vec<Vec<u8>> = targeted(63).into_iter().map(|case| case.file).collect();
+    every_call_agrees(&files, 63);
+}
+
+/// Every number of rows up to a few above K, and every room up to a few bytes
+/// above the block's.
+fn every_size<'a>(file: &'a [u8], random: &mut Random) -> Vec<Question<'a>> {
+    let (keys, bytes) = needs(file);
+    let mut list = Vec::new();
+    list.extend((0..keys + 4).chain([300, 1_000]).map(|lent| rows(file, lent, random)));
+    list.extend((0..bytes + 10).chain([65_536]).map(|room| block(file, room, random)));
+    list
+}
+
+#[test]
+fn any_number_of_rows_and_any_room_agree() {
+    let mut random = Random::new(64);
+    for run in accepted(64, 150).chunks(50) {
+        let questions = run.iter().flat_map(|file| every_size(file, &mut random));
+        agree(&questions.collect::<Vec<_>>());
+    }
+}
+
+/// The 45 known keys with their neighbours, and the same 16 bits under others.
+fn key_numbers() -> Vec<u32> {
+    let near = |key: u32| [key - 1, key, key + 1, 65_536 + key, (1 << 31) + key, key << 16];
+    let mut numbers: Vec<u32> = KEYS.iter().flat_map(|row| near(u32::from(row.key))).collect();
+    numbers.extend([0, 1, 32_767, 65_534, 65_535, 65_536, u32::MAX - 1, u32::MAX]);
+    numbers
+}
+
+#[test]
+fn citations_of_every_key_agree() {
+    let (files, keys) = (accepted(65, 150), key_numbers());
+    let of = |file| keys.iter().map(move |&key| citation(file, key));
+    agree(&files.iter().flat_map(|file| of(file)).collect::<Vec<_>>());
+    agree(&(0..65_536).map(|key| citation(&files[0], key)).collect::<Vec<_>>());
+}
+
+#[test]
+fn outside_texts_of_any_length_agree() {
+    let mut files = accepted(67, 30);
+    files.extend([FILE_A.to_vec(), FILE_A[..269].to_vec(), Vec::new()]);
+    for length in [0, 1, 4, 5, 255, 70_000, 1_000_000] {
+        let text = Random::new(67).bytes(length);
+        agree(&files.iter().map(|file| metadata(file, &text)).collect::<Vec<_>>());
+    }
+    // a text that is the file itself is still the outside text
+    agree(&files.iter().map(|file| metadata(file, file)).collect::<Vec<_>>());
+}
+
+/// Files of every verdict, at most `most` of each.
+fn of_every_verdict(most: usize) -> Vec<Vec<u8>> {
+    let mut seen: BTreeMap<u32, usize> = BTreeMap::new();
+    let mixed = (0..6_000).map(|number| sample(73, number).file);
+    let plain = targeted(73).into_iter().filter(|case| matches!(case.call, Call::Judge));
+    let mut files: Vec<Vec<u8>> = mixed.chain(plain.map(|case| case.file)).collect();
+    files.retain(|file| {
+        let count = seen.entry(judge(file).verdict.number).or_insert(0);
+        *count += 1;
+        *count <= most
+    });
+    assert_eq!(seen.keys().copied().collect::<Vec<u32>>(), (0..=22).collect::<Vec<u32>>());
+    files
+}
+
+/// Both lists of questions get the same numbers and the same memory back.
+fn same_answers(before: &[Question], after: &[Question]) {
+    let replies = ask(before).into_iter().zip(ask(after));
+    for (asked, (was, is)) in before.iter().zip(replies) {
+        let lent = asked.memory.len();
+        assert_eq!(was.numbers, is.numbers, "{asked:02X?}");
+        assert_eq!(was.bytes[..lent], is.bytes[..lent], "{asked:02X?}");
+    }
+}
+
+/// Demand 3: every byte that is not on the reading list is drawn anew, and
+/// the whole answer of every call stays.
+#[test]
+fn repainting_what_is_not_on_the_reading_list_changes_nothing() {
+    let mut random = Random::new(74);
+    let files = of_every_verdict(60);
+    let painted: Vec<Vec<u8>> = files.iter().map(|file| repainted(file, &mut random)).collect();
+    let changed = files.iter().zip(&painted).filter(|(file, other)| file != other).count();
+    assert!(changed > 500, "{changed} files changed");
+    for (files, painted) in files.chunks(RUN).zip(painted.chunks(RUN)) {
+        let (mut before, mut after) = (Vec::new(), Vec::new());
+        for (file, other) in files.iter().zip(painted) {
+            let list = every_call(file, &mut random);
+            after.extend(list.iter().map(|asked| Question {
+                runs: [other, asked.runs[1], asked.runs[2]],
+                ..asked.clone()
+            }));
+            before.extend(list);
+        }
+        agree(&before);
+        same_answers(&before, &after);
+    }
+}
