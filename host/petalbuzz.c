@@ -13,7 +13,8 @@
 
 static const char usage[] = "petalbuzz [--plain | --json | --summary] [--] [FILE...]\n";
 static const char help[] =
-    "Judges GeoTIFF files by their bytes: 22 rules drawn from TIFF 6.0, GeoTIFF and DGIWG 108.\n"
+    "Judges GeoTIFF files by their bytes: rules " RULE_NUMBERS ", drawn from TIFF 6.0, GeoTIFF\n"
+    "and DGIWG 108.\n"
     "\n"
     "A FILE is a file, a directory, of which every file is judged, or - for standard input.\n"
     "Without one it is file A, an example.\n"
@@ -24,8 +25,9 @@ static const char help[] =
     "  --help     prints this\n"
     "  --version  prints which library judges\n"
     "\n"
-    "Verdict 0 is accepted, any other number is the first broken rule; the place is a tag, a\n"
-    "strip's index or a key. Status: 0 all accepted, 1 some refused, 2 some not read.\n";
+    "Verdict 0 is accepted, any other number is the first broken rule; 27 comes directly after 8.\n"
+    "The place is a tag, the index of a strip or tile, or a key.\n"
+    "Status: 0 all accepted, 1 some refused, 2 some not read.\n";
 
 enum { MOST_KEYS = 256, ASCII = 2 };
 
@@ -369,7 +371,7 @@ static void take_option(const char *word) {
         end();
     }
     if (strcmp(word, "--version") == 0) {
-        printf("petalbuzz: rules 1 to %d; libpetalbuzz.a with SHA-256 %s\n", RULES - 1, LIBRARY);
+        printf("petalbuzz: rules %s; libpetalbuzz.a with SHA-256 %s\n", RULE_NUMBERS, LIBRARY);
         end();
     }
     complain(word, "is not an option here");

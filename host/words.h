@@ -1,5 +1,5 @@
-/* What the numbers mean: a sentence for each rule, in document 01's words, and
- * the names of tags and keys. Nothing here looks at a file. */
+/* What the numbers mean: a sentence for each rule, in the words of documents 01
+ * and 02, and the names of tags and keys. Nothing here looks at a file. */
 #ifndef HOST_WORDS_H
 #define HOST_WORDS_H
 
@@ -7,8 +7,8 @@
 #include <stdint.h>
 
 /* What is said of a tag or key beside its name, by rule: of 10 and 17, 11 and
- * 19, 12 and 18 and 21. */
-enum column { FORM, ALLOWED, FAULT, COLUMNS };
+ * 19, 12 and 21, 9 and 18. */
+enum column { FORM, ALLOWED, FAULT, NEEDED, COLUMNS };
 
 struct thing {
     uint32_t number;
@@ -17,12 +17,16 @@ struct thing {
 };
 
 #define STRIPS "its count is not length / rows per strip, rounded up"
+#define MULTIPLES "positive multiples of 16"
+#define TILES "its count is not the tiles across times the tiles down, each rounded up"
+#define OF_STRIPS "as a tag of strips is present"
+#define OF_TILES "as a tag of tiles is present"
 #define MATRIX                                                                                     \
     "a double is not finite, the last four do not compare equal to 0, 0, 0, 1, or the products "   \
     "(1st x 6th) and (2nd x 5th), each rounded to a double, compare equal"
 
-/* Tags by their names in TIFF 6.0, GeoTIFF and DGIWG 108, with document 01's
- * table; the last row is any other tag. */
+/* Tags by their names in TIFF 6.0, GeoTIFF and DGIWG 108, with the table of
+ * documents 01 and 02; the last row is any other tag. */
 static const struct thing tags[] = {
     {254, "NewSubfileType", {0}},
     {256, "ImageWidth", {"type SHORT or LONG, count 1", "1 to 1,000,000"}},
@@ -37,11 +41,11 @@ static const struct thing tags[] = {
     {270, "ImageDescription", {0}},
     {271, "Make", {0}},
     {272, "Model", {0}},
-    {273, "StripOffsets", {"type SHORT or LONG, count 1 or more", NULL, STRIPS}},
+    {273, "StripOffsets", {"type SHORT or LONG, count 1 or more", NULL, STRIPS, OF_STRIPS}},
     {274, "Orientation", {0}},
     {277, "SamplesPerPixel", {"type SHORT, count 1", "1 to 8"}},
-    {278, "RowsPerStrip", {"type SHORT or LONG, count 1", "1 or more"}},
-    {279, "StripByteCounts", {"type SHORT or LONG, count 1 or more", NULL, STRIPS}},
+    {278, "RowsPerStrip", {"type SHORT or LONG, count 1", "1 or more", NULL, OF_STRIPS}},
+    {279, "StripByteCounts", {"type SHORT or LONG, count 1 or more", NULL, STRIPS, OF_STRIPS}},
     {280, "MinSampleValue", {0}},
     {281, "MaxSampleValue", {0}},
     {282, "XResolution", {0}},
@@ -53,10 +57,10 @@ static const struct thing tags[] = {
     {315, "Artist", {0}},
     {316, "HostComputer", {0}},
     {320, "ColorMap", {0}},
-    {322, "TileWidth", {0}},
-    {323, "TileLength", {0}},
-    {324, "TileOffsets", {0}},
-    {325, "TileByteCounts", {0}},
+    {322, "TileWidth", {"type SHORT or LONG, count 1", MULTIPLES, NULL, OF_TILES}},
+    {323, "TileLength", {"type SHORT or LONG, count 1", MULTIPLES, NULL, OF_TILES}},
+    {324, "TileOffsets", {"type LONG, count 1 or more", NULL, TILES, OF_TILES}},
+    {325, "TileByteCounts", {"type SHORT or LONG, count 1 or more", NULL, TILES, OF_TILES}},
     {338, "ExtraSamples", {0}},
     {339, "SampleFormat", {0}},
     {33432, "Copyright", {0}},
@@ -84,7 +88,7 @@ static const struct thing keys[] = {
     {1024, "GTModelTypeGeoKey", {SHORT_KEY, "1 or 2"}},
     {1025, "GTRasterTypeGeoKey", {SHORT_KEY, "1 or 2"}},
     {1026, "GTCitationGeoKey", {ASCII_KEY}},
-    {2048, "GeographicTypeGeoKey", {SHORT_KEY, "4326", "as key 1024 is 2"}},
+    {2048, "GeographicTypeGeoKey", {SHORT_KEY, "4326", NULL, "as key 1024 is 2"}},
     {2049, "GeogCitationGeoKey", {ASCII_KEY}},
     {2050, "GeogGeodeticDatumGeoKey", {SHORT_KEY}},
     {2051, "GeogPrimeMeridianGeoKey", {SHORT_KEY}},
@@ -98,7 +102,8 @@ static const struct thing keys[] = {
     {2059, "GeogInvFlatteningGeoKey", {DOUBLE_KEY}},
     {2060, "GeogAzimuthUnitsGeoKey", {SHORT_KEY}},
     {2061, "GeogPrimeMeridianLongGeoKey", {DOUBLE_KEY}},
-    {3072, "ProjectedCSTypeGeoKey", {SHORT_KEY, "32601-32661 or 32701-32761", "as key 1024 is 1"}},
+    {3072, "ProjectedCSTypeGeoKey", {SHORT_KEY, "32601-32661 or 32701-32761", NULL,
+        "as key 1024 is 1"}},
     {3073, "PCSCitationGeoKey", {ASCII_KEY}},
     {3074, "ProjectionGeoKey", {SHORT_KEY}},
     {3075, "ProjCoordTransGeoKey", {SHORT_KEY}},
@@ -135,18 +140,24 @@ static const char *const form_names[] = {"scaled", "affine"};
 static const char *const six_names[][6] = {{"ti", "tj", "tx", "ty", "sx", "sy"},
                                            {"m1", "m2", "m4", "m5", "m6", "m8"}};
 
-/* What a rule's place is the number of. */
+/* What a rule's place is the number of. Of a piece the two numbers do not tell
+ * whether it is a strip or a tile. */
 struct noun {
     const char *word;
     const struct thing *named; /* null: it has no name */
 };
-static const struct noun a_tag = {"tag", tags}, a_strip = {"strip", NULL}, a_key = {"key", keys};
+static const struct noun a_tag = {"tag", tags}, a_key = {"key", keys},
+                         a_piece = {"strip or tile", NULL};
+
+/* The rules of every call on a file. */
+#define RULE_NUMBERS "1 to 22 and 27"
 
 /* The sentence of a rule: its place, what is wrong there, and, behind a joint,
- * what is said of that very tag or key. */
+ * what is said of that very tag or key. They stand in the order in which they
+ * are tried. */
 static const struct rule {
     const struct noun *place; /* null: it has none */
-    const char *wrong;
+    const char *wrong; /* null: no such rule */
     const char *joint; /* null: no more is said */
     enum column more;
 } rules[] = {
@@ -162,19 +173,21 @@ static const struct rule {
     [7] = {&a_tag, .wrong = "has count 0, or its value of more than 4 bytes starts odd, below 8, "
                             "or ends past the end of the file"},
     [8] = {.wrong = "the next offset is not 0"},
-    [9] = {&a_tag, .wrong = "is needed and absent"},
+    [27] = {.wrong = "tags of both strips (273, 278, 279) and tiles (322 to 325) are present, or of "
+                     "neither"},
+    [9] = {&a_tag, "is needed and absent", ", ", NEEDED},
     [10] = {&a_tag, "has another type or count", "; right: ", FORM},
     [11] = {&a_tag, "has a value that is not allowed", "; allowed: ", ALLOWED},
     [12] = {&a_tag, "disagrees with other tags", ": ", FAULT},
-    [13] = {&a_strip, .wrong = "has byte count 0, an offset below 8, or ends past the end of the "
+    [13] = {&a_piece, .wrong = "has byte count 0, an offset below 8, or ends past the end of the "
                                "file"},
-    [14] = {&a_strip, .wrong = "shares a byte with the reading list: the head, the directory and "
+    [14] = {&a_piece, .wrong = "shares a byte with the reading list: the head, the directory and "
                                "the values of the table's tags"},
     [15] = {.wrong = "the key directory's first three numbers are not 1, 1, 0, or the fourth, K, "
                      "exceeds 256, or the tag's count is below 4 + 4K"},
     [16] = {&a_key, .wrong = "is not greater than the one before"},
     [17] = {&a_key, "has a wrong location, count or value index", "; right: ", FORM},
-    [18] = {&a_key, "is needed and absent", ", ", FAULT},
+    [18] = {&a_key, "is needed and absent", ", ", NEEDED},
     [19] = {&a_key, "has a value that is not allowed", "; allowed: ", ALLOWED},
     [20] = {.wrong = "the file has neither scale and tiepoint with no matrix, nor matrix with no "
                      "scale and no tiepoint"},
@@ -189,23 +202,29 @@ static const struct thing *find(const struct thing *row, uint32_t number) {
     return row;
 }
 
+/* The rule of a verdict, or null. */
+static const struct rule *rule_of(uint32_t verdict) {
+    return verdict < RULES && rules[verdict].wrong ? &rules[verdict] : NULL;
+}
+
 /* Writes the sentence of a rule, for any place. */
 static void say_rule(char sentence[SENTENCE], uint32_t verdict) {
-    if (verdict >= RULES)
+    const struct rule *rule = rule_of(verdict);
+    if (!rule)
         snprintf(sentence, SENTENCE, "rule %u is broken", verdict);
-    else if (!rules[verdict].place)
-        snprintf(sentence, SENTENCE, "%s", rules[verdict].wrong);
+    else if (!rule->place)
+        snprintf(sentence, SENTENCE, "%s", rule->wrong);
     else
-        snprintf(sentence, SENTENCE, "a %s %s", rules[verdict].place->word, rules[verdict].wrong);
+        snprintf(sentence, SENTENCE, "a %s %s", rule->place->word, rule->wrong);
 }
 
 /* Writes the sentence of a rule, for one place. */
 static void say(char sentence[SENTENCE], uint32_t verdict, uint32_t place) {
-    if (verdict >= RULES || !rules[verdict].place) {
+    const struct rule *rule = rule_of(verdict);
+    if (!rule || !rule->place) {
         say_rule(sentence, verdict);
         return;
     }
-    const struct rule *rule = &rules[verdict];
     const char *name = NULL, *more = NULL;
     if (rule->place->named) {
         const struct thing *row = find(rule->place->named, place);

@@ -6,10 +6,11 @@
  *
  * Every call gives two numbers. The verdict is 0 for an accepted file, else
  * the number of the first broken rule. The place says where: a tag, a key or
- * a strip's index, as the rule has it, and 0 where the rule has none. Rules
- * 1 to 22 are the same in every call on a file; 23 to 26 are told where a
- * call has them. With any verdict but 0 all other numbers are 0 and memory
- * lent for writing keeps its bytes.
+ * the index of a strip or tile, as the rule has it, and 0 where the rule has
+ * none. Rules 1 to 22 and 27, which comes directly after 8, are the same in
+ * every call on a file; 23 to 26 are told where a call has them. With any
+ * verdict but 0 all other numbers are 0 and memory lent for writing keeps its
+ * bytes.
  *
  * The functions named *_file or *_runs take any pointer, a null one too, and
  * answer a struct: a host calls these. The plain functions are the symbols of

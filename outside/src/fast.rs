@@ -2,16 +2,18 @@
 //! nothing that can be left out. It is the measure for the compiled judge.
 //!
 //! One pass over the entries keeps those of the table in a fixed array; one
-//! pass over the strips and one over the keys follow. Each rule is tried as
-//! soon as its numbers are at hand, and the first fault of a later rule waits
-//! until the earlier ones are done. Nothing is allocated, the byte order is a
-//! constant of each copy of the code, and all reads are from arrays of known
-//! length, so no unsafe code is needed to be rid of the bounds.
+//! pass over the pieces and one over the keys follow. There is a copy of what
+//! looks at pieces for strips and one for tiles: after rule 27 a file has just
+//! one of the two families. Each rule is tried as soon as its numbers are at
+//! hand, and the first fault of a later rule waits until the earlier ones are
+//! done. Nothing is allocated, the byte order is a constant of each copy of the
+//! code, and all reads are from arrays of known length, so no unsafe code is
+//! needed to be rid of the bounds.
 
 mod ground;
 mod keys;
 mod number;
-mod strips;
+mod pieces;
 mod tags;
 
 use number::{long_at, short_at};
@@ -74,7 +76,7 @@ fn examine(file: &[u8], ground: &mut Ground) -> Result<(), Refusal> {
     }
 }
 
-/// Rules 3 to 22.
+/// Rules 3 to 22 and 27.
 #[inline]
 fn in_order<const BIG: bool>(
     file: &[u8],
@@ -98,8 +100,19 @@ fn in_order<const BIG: bool>(
     let Some((entries, next)) = rest.split_at_checked(12 * count) else { return refuse(5, 0) };
     let Some(next) = next.first_chunk::<4>() else { return refuse(5, 0) };
     let mut tags = Tags::new(at as u32, count as u32);
-    tags.rules6to12::<BIG>(file, entries.as_chunks::<12>().0, next)?;
-    strips::rules13and14::<BIG>(file, &tags)?;
+    if tags.rules6to9::<BIG>(file.len() as u64, entries.as_chunks::<12>().0, next)? {
+        in_tiles::<BIG>(file, &mut tags)?;
+    } else {
+        tags.rules10to12::<BIG, false>(file)?;
+        pieces::rules13and14::<BIG, false>(file, &tags)?;
+    }
     let raster = keys::rules15to19::<BIG>(file, &tags)?;
     ground::rules20to22::<BIG>(file, &tags, raster, ground)
+}
+
+/// Rules 10 to 14 of a picture in tiles, apart from the path of strips.
+#[inline(never)]
+fn in_tiles<const BIG: bool>(file: &[u8], tags: &mut Tags) -> Result<(), Refusal> {
+    tags.rules10to12::<BIG, true>(file)?;
+    pieces::rules13and14::<BIG, true>(file, tags)
 }

@@ -4,7 +4,7 @@
 //! `plan` describes a file and lays it out to bytes; `keyplan` does so for the
 //! keys; `valid` draws files that keep every rule; `damage` spoils them at
 //! random; `targeted` breaks each clause at its exact boundary and states the
-//! verdict by construction; `large` makes files of very many strips.
+//! verdict by construction; `large` makes files of very many pieces.
 
 pub mod damage;
 pub mod keyplan;

@@ -1,10 +1,11 @@
-//! The second reader: rules 1 to 26 of document 01 and every call, over a
-//! plain run of bytes. It is written to be compared with the words of the
-//! document, not to be fast: all sums are whole-number sums in u64.
+//! The second reader: rules 1 to 26 of document 01, rule 27 of request C-11,
+//! and every call, over a plain run of bytes. It is written to be compared
+//! with the words of the documents, not to be fast: all sums are whole-number
+//! sums in u64.
 //!
 //! `tables` holds the one table for tags and the one for keys; `directory`
-//! rules 1 to 8; `tags` 9 to 12; `strips` 13, 14 and the reading list; `keys`
-//! 15 to 19; `ground` 20 to 22; `block` the key block; `calls` the calls.
+//! rules 1 to 8 and 27; `tags` 9 to 12; `pieces` 13, 14 and the reading list;
+//! `keys` 15 to 19; `ground` 20 to 22; `block` the key block; `calls` the calls.
 
 mod block;
 mod calls;
@@ -13,7 +14,7 @@ mod directory;
 mod ground;
 mod keys;
 mod number;
-mod strips;
+mod pieces;
 pub mod tables;
 mod tags;
 mod variety;
@@ -21,11 +22,11 @@ mod verdict;
 
 pub use block::{read_block, read_block_clause};
 pub use calls::{
-    citation, citation_clause, judge, judge_clause, key_block, key_block_clause, key_rows,
-    key_rows_clause, metadata, Block, Cited, Judged, Row, Text,
+    citation, citation_clause, judge, judge_by, judge_clause, key_block, key_block_clause,
+    key_rows, key_rows_clause, metadata, Block, Cited, Judged, Row, Text,
 };
 pub use ground::Georeference;
 pub use number::Order;
-pub use strips::{listed, reading_list};
+pub use pieces::{listed, reading_list, reading_list_by};
 pub use variety::{varieties, VARIETIES};
-pub use verdict::Verdict;
+pub use verdict::{judgements, Verdict};

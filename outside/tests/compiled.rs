@@ -1,9 +1,12 @@
 //! The compiled judge against the second reader: verdict, place, form, six
 //! doubles and corners, by bits. `calls` does so for the other calls.
 
+mod common;
+
 use outside::compiled::{ask, disagreements, Answer, Question, Symbol};
-use outside::generator::large::many_strips;
+use outside::generator::large::many_pieces;
 use outside::generator::{sample, targeted, Call};
+use outside::reader::tables::BOTH;
 use outside::reader::Order;
 
 /// Files of the mix go to the judge in runs of so many.
@@ -34,14 +37,21 @@ fn the_targeted_cases_agree() {
 }
 
 #[test]
-fn files_of_many_strips_agree() {
-    let orders = [Order::Little, Order::Big];
-    let mut files: Vec<Vec<u8>> = orders.iter().map(|&o| many_strips(o, 40_000, 3)).collect();
-    files.push(many_strips(Order::Little, 1_000_000, 1));
-    let mut cut = files[0].clone();
-    cut.pop();
-    files.push(cut);
-    agree(&files);
+fn the_files_of_real_producers_agree() {
+    agree(&common::field());
+}
+
+#[test]
+fn files_of_many_pieces_agree() {
+    for &family in BOTH {
+        let of_order = |order: &Order| many_pieces(*order, family, 40_000, 3);
+        let mut files: Vec<Vec<u8>> = [Order::Little, Order::Big].iter().map(of_order).collect();
+        files.push(many_pieces(Order::Little, family, 1_000_000, 1));
+        let mut cut = files[0].clone();
+        cut.pop();
+        files.push(cut);
+        agree(&files);
+    }
 }
 
 #[test]

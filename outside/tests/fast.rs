@@ -1,10 +1,12 @@
 //! The fast judge agrees with the second reader: else its speed says nothing.
 
+mod common;
+
 use outside::compiled::{expected, fast};
-use outside::generator::large::many_strips;
+use outside::generator::large::many_pieces;
 use outside::generator::plan::{Plan, Tag};
 use outside::generator::{sample, targeted, Call};
-use outside::reader::tables::TAGS;
+use outside::reader::tables::{BOTH, TAGS};
 use outside::reader::Order;
 
 fn agrees(file: &[u8]) {
@@ -24,6 +26,14 @@ fn the_fast_judge_agrees_on_the_targeted_cases() {
     plain.for_each(|case| agrees(&case.file));
 }
 
+#[test]
+fn the_fast_judge_agrees_on_the_files_of_real_producers() {
+    let files = common::field();
+    files.iter().for_each(|file| agrees(file));
+    let accepted = files.iter().filter(|file| expected(file).verdict == 0).count();
+    assert_eq!((files.len(), accepted), (65, 29), "as docs/FIELD.md has them");
+}
+
 /// Every tag of the table, and some behind it, with a value of its own.
 #[test]
 fn the_fast_judge_agrees_where_every_value_is_long() {
@@ -38,10 +48,12 @@ fn the_fast_judge_agrees_where_every_value_is_long() {
 }
 
 #[test]
-fn the_fast_judge_agrees_on_many_strips() {
-    for order in [Order::Little, Order::Big] {
-        for strips in [1, 2, 3, 40_000] {
-            let file = many_strips(order, strips, 3);
+fn the_fast_judge_agrees_on_many_pieces() {
+    for (order, &family) in
+        [Order::Little, Order::Big].iter().flat_map(|o| BOTH.iter().map(move |f| (*o, f)))
+    {
+        for pieces in [1, 2, 3, 40_000] {
+            let file = many_pieces(order, family, pieces, 3);
             assert_eq!(expected(&file).verdict, 0);
             agrees(&file);
             agrees(&file[..file.len() - 1]);

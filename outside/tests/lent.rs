@@ -9,7 +9,7 @@ use outside::reader::{citation, judge, key_block, key_rows, metadata, Cited, Row
 
 /// The refused cases, at most `most` of each rule.
 fn refused(most: usize) -> Vec<Case> {
-    let mut seen = [0; 27];
+    let mut seen = [0; 28];
     let mut cases = targeted(31);
     cases.retain(|case| {
         let rule = case.want.number as usize;

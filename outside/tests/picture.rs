@@ -3,11 +3,11 @@
 
 mod common;
 
-use common::{repainted, UNTOUCHED};
+use common::{held, repainted, tags, UNTOUCHED};
 use outside::generator::prng::Random;
 use outside::generator::{random, targeted, Call};
 use outside::reader::{
-    citation, judge, key_block, key_rows, listed, metadata, Georeference, Row, Verdict,
+    citation, judge, judgements, key_block, key_rows, listed, metadata, Georeference, Row, Verdict,
 };
 use std::collections::{BTreeMap, BTreeSet};
 
@@ -96,30 +96,42 @@ fn repainting_changes_no_answer() {
             assert_eq!(answers(&other), before);
         }
     }
-    assert_eq!(numbers, (0..=22).collect::<BTreeSet<u32>>());
+    assert_eq!(numbers, judgements().collect::<BTreeSet<u32>>());
     assert!(painted > 3_000, "{painted}");
 }
 
 #[test]
-fn in_an_accepted_file_no_strip_byte_is_listed() {
+fn in_an_accepted_file_no_byte_of_a_piece_is_listed() {
+    let mut seen = [0, 0];
     for sample in random(23, 2_000).into_iter().filter(|sample| !sample.damaged) {
         let list = listed(&sample.file);
-        for strip in strips(&sample.file) {
-            assert!(list[strip].iter().all(|listed| !listed));
+        let (tiled, pieces) = pieces(&sample.file);
+        seen[usize::from(tiled)] += 1;
+        for piece in pieces {
+            assert!(list[piece].iter().all(|listed| !listed));
         }
+    }
+    assert!(seen.iter().all(|files| *files > 300), "strips and tiles: {seen:?}");
+}
+
+/// The bytes of the pieces, and nothing else, drawn anew in an accepted file.
+#[test]
+fn repainting_the_pieces_alone_changes_no_answer() {
+    let mut random_bytes = Random::new(25);
+    for sample in random(24, 1_000).into_iter().filter(|sample| !sample.damaged) {
+        let mut other = sample.file.clone();
+        for piece in pieces(&sample.file).1 {
+            let fresh = random_bytes.bytes(piece.len());
+            other[piece].copy_from_slice(&fresh);
+        }
+        assert_eq!(answers(&other), answers(&sample.file));
     }
 }
 
-/// The strips of an accepted file, read apart from the reader.
-fn strips(file: &[u8]) -> Vec<std::ops::Range<usize>> {
-    let number = |at: usize, width: usize| {
-        let bytes = &file[at..at + width];
-        let fold = |total: usize, byte: &u8| total << 8 | usize::from(*byte);
-        match file[0] {
-            b'I' => bytes.iter().rev().fold(0, fold),
-            _ => bytes.iter().fold(0, fold),
-        }
-    };
+/// Whether an accepted file is in tiles, and the bytes of each strip or tile,
+/// read apart from the reader.
+fn pieces(file: &[u8]) -> (bool, Vec<std::ops::Range<usize>>) {
+    let number = |at: usize, width: usize| held::number(file[0] == b'I', file, at, width) as usize;
     let directory = number(4, 4);
     let numbers = |tag: usize| -> Vec<usize> {
         let entries = (0..number(directory, 2)).map(|at| directory + 2 + 12 * at);
@@ -128,6 +140,8 @@ fn strips(file: &[u8]) -> Vec<std::ops::Range<usize>> {
         let start = if width * count > 4 { number(entry + 8, 4) } else { entry + 8 };
         (0..count).map(|at| number(start + width * at, width)).collect()
     };
-    let (offsets, counts) = (numbers(273), numbers(279));
-    offsets.iter().zip(&counts).map(|(&offset, &count)| offset..offset + count).collect()
+    let tiled = tags(file).contains(&324);
+    let (offsets, counts) = if tiled { (324, 325) } else { (273, 279) };
+    let (offsets, counts) = (numbers(offsets), numbers(counts));
+    (tiled, offsets.iter().zip(&counts).map(|(&offset, &count)| offset..offset + count).collect())
 }

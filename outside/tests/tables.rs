@@ -1,24 +1,30 @@
-//! The two tables against the words of document 01, set down here again.
+//! The two tables against the words of document 01 and of request C-11, set
+//! down here again.
 
-use outside::reader::tables::{kind_of, Count, Kind, Needed, KEYS, TAGS};
+use outside::reader::tables::{
+    kind_of, outside, Allowed, Count, Family, Kind, Need, Needed, KEYS, TAGS,
+};
 
-/// The table of tags: numbers, needed, types, count.
+/// The table of tags: numbers, needed, types, count, values.
 const OF_TAGS: &str = "
-256 257 | yes | SHORT LONG | 1
-258 | yes | SHORT | 1 or more
-259 | yes | SHORT | 1
-262 | yes | SHORT | 1
-273 279 | yes | SHORT LONG | 1 or more
-277 | yes | SHORT | 1
-278 | yes | SHORT LONG | 1
-284 | no | SHORT | 1
-33550 | no | DOUBLE | 3
-33922 | no | DOUBLE | 6
-34264 | no | DOUBLE | 16
-34735 | yes | SHORT | 4 or more
-34736 | no | DOUBLE | 1 or more
-34737 | no | ASCII | 1 or more
-50909 | no | BYTE | 1 or more
+256 257 | yes | SHORT LONG | 1 | 1-1000000
+258 | yes | SHORT | 1 or more | 1, 8, 16, 32
+259 | yes | SHORT | 1 | 1, 2, 32773
+262 | yes | SHORT | 1 | 0-3
+273 279 | in strips | SHORT LONG | 1 or more | any
+277 | yes | SHORT | 1 | 1-8
+278 | in strips | SHORT LONG | 1 | 1-4294967295
+284 | no | SHORT | 1 | 1
+322 323 | in tiles | SHORT LONG | 1 | positive multiples of 16
+324 | in tiles | LONG | 1 or more | any
+325 | in tiles | SHORT LONG | 1 or more | any
+33550 | no | DOUBLE | 3 | any
+33922 | no | DOUBLE | 6 | any
+34264 | no | DOUBLE | 16 | any
+34735 | yes | SHORT | 4 or more | any
+34736 | no | DOUBLE | 1 or more | any
+34737 | no | ASCII | 1 or more | any
+50909 | no | BYTE | 1 or more | any
 ";
 
 const OF_ASCII: &str = "1026, 2049, 3073, 4097";
@@ -44,6 +50,35 @@ fn count(words: &str) -> Count {
     }
 }
 
+fn need(words: &str) -> Need {
+    match words {
+        "yes" => Need::Always,
+        "no" => Need::Never,
+        "in strips" => Need::In(Family::Strips),
+        "in tiles" => Need::In(Family::Tiles),
+        _ => panic!("{words}"),
+    }
+}
+
+/// Whether the words allow a number.
+fn allowed(words: &str, number: u32) -> bool {
+    let within = |part: &str| {
+        let (low, high) = part.split_once('-').unwrap_or((part, part));
+        (low.parse().unwrap()..=high.parse().unwrap()).contains(&number)
+    };
+    match words {
+        "any" => true,
+        "positive multiples of 16" => number > 0 && number.is_multiple_of(16),
+        _ => words.split(", ").any(within),
+    }
+}
+
+/// Numbers around everything that a value is compared with.
+fn tried() -> impl Iterator<Item = u32> {
+    let far = [1_000_000, 1 << 24, 1 << 31, u32::MAX - 31, u32::MAX - 15, u32::MAX];
+    (0..70_000).chain(far.into_iter().flat_map(|number| number - 2..=number.saturating_add(2)))
+}
+
 #[test]
 fn the_table_of_tags_is_the_documents() {
     let mut told = 0;
@@ -53,8 +88,12 @@ fn the_table_of_tags_is_the_documents() {
             let tag: u16 = tag.parse().unwrap();
             let row = TAGS.iter().find(|row| row.tag == tag).expect("a row of the table");
             let kinds: Vec<u16> = columns[2].split(' ').map(type_number).collect();
-            assert_eq!((row.needed, row.kinds), (columns[1] == "yes", &kinds[..]), "{tag}");
+            assert_eq!((row.need, row.kinds), (need(columns[1]), &kinds[..]), "{tag}");
             assert_eq!(row.count, count(columns[3]), "{tag}");
+            for number in tried() {
+                let may = outside(row.allowed, number).is_none();
+                assert_eq!(may, allowed(columns[4], number), "{tag} {number}");
+            }
             told += 1;
         }
     }
@@ -102,6 +141,6 @@ fn needed_and_tested_keys_are_the_documents() {
     ];
     assert_eq!(needed, told);
     let tested: Vec<u16> =
-        KEYS.iter().filter(|row| row.allowed.is_some()).map(|row| row.key).collect();
+        KEYS.iter().filter(|row| row.allowed != Allowed::Any).map(|row| row.key).collect();
     assert_eq!(tested, [1024, 1025, 2048, 2054, 3072, 3076, 4096]);
 }

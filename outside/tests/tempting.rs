@@ -5,8 +5,10 @@ mod common;
 use common::*;
 use outside::generator::keyplan::{Held, Keys};
 use outside::generator::plan::{Plan, Tag};
+use outside::reader::tables::Family;
 use outside::reader::{
-    citation, judge, judge_clause, key_block, key_rows, metadata, read_block, Georeference, Order,
+    citation, judge, judge_clause, key_block, key_rows, metadata, read_block, reading_list,
+    Georeference, Order,
 };
 
 const ORDERS: [Order; 2] = [Order::Little, Order::Big];
@@ -22,6 +24,15 @@ fn keys() -> Keys {
 /// A plan like file A, with these keys.
 fn plan(order: Order, keys: &Keys) -> Plan {
     plan_like_a(order, &keys.encode())
+}
+
+/// Plans like file A, in strips and in tiles, of both byte orders.
+fn plans() -> Vec<(Family, Plan)> {
+    let both = |order| {
+        let plan = plan(order, &keys());
+        [(Family::Strips, plan.clone()), (Family::Tiles, tiled(plan))]
+    };
+    ORDERS.into_iter().flat_map(both).collect()
 }
 
 #[test]
@@ -87,28 +98,172 @@ fn a_short_metadata_text_stands_in_its_entry() {
 }
 
 #[test]
-fn the_end_of_a_strip_is_a_whole_number_sum() {
-    for order in ORDERS {
-        let mut laid = plan(order, &keys()).lay();
-        laid.put_long(laid.spot(273).value, 0xFFFF_FFF8);
-        laid.put_long(laid.spot(279).value, 0x0000_0010);
-        assert_eq!(judge_clause(&laid.bytes), (verdict(13, 0), "13 past n"));
+fn the_end_of_a_piece_is_a_whole_number_sum() {
+    for (family, plan) in plans() {
+        let mut laid = plan.lay();
+        let (offsets, counts) = laid.places();
+        laid.put_long(offsets.value, 0xFFFF_FFF8);
+        laid.put_long(counts.value, 0x0000_0010);
+        let (got, clause) = judge_clause(&laid.bytes);
+        assert_eq!((got, clause), (verdict(13, 0), &*format!("13 {} past n", family.word())));
     }
 }
 
 #[test]
-fn rule_14_is_tried_on_every_strip() {
-    for order in ORDERS {
-        let mut plan = plan(order, &keys());
-        plan.set(Tag::shorts(257, &[40]));
-        plan.set(Tag::shorts(278, &[1]));
-        plan.set_strips(&[2; 40], (true, true));
+fn rule_14_is_tried_on_every_piece() {
+    for (family, mut plan) in plans() {
+        match family {
+            Family::Strips => {
+                plan.set(Tag::shorts(257, &[40]));
+                plan.set(Tag::shorts(278, &[1]));
+            }
+            Family::Tiles => {
+                plan.set(Tag::shorts(256, &[8 * 16]));
+                plan.set(Tag::shorts(257, &[5 * 16]));
+            }
+        }
+        plan.set_pieces(family, &[2; 40], (true, true));
         let laid = plan.lay();
         assert_eq!(judge(&laid.bytes).verdict, verdict(0, 0));
-        for strip in 0..40 {
+        for piece in 0..40 {
             let mut laid = laid.clone();
-            laid.put_long(laid.spot(273).value + 4 * strip, laid.directory as u32);
-            assert_eq!(judge(&laid.bytes).verdict, verdict(14, strip as u32));
+            laid.put_long(laid.places().0.value + 4 * piece, laid.directory as u32);
+            assert_eq!(judge(&laid.bytes).verdict, verdict(14, piece as u32));
+        }
+    }
+}
+
+/// The verdict on a planned file.
+fn of(plan: &Plan) -> (u32, u32) {
+    let verdict = judge(&plan.lay().bytes).verdict;
+    (verdict.number, verdict.place)
+}
+
+/// The plan with a tag set, or without it.
+fn with(plan: &Plan, tag: Tag) -> Plan {
+    let mut plan = plan.clone();
+    plan.set(tag);
+    plan
+}
+
+fn without(plan: &Plan, tags: &[u16]) -> Plan {
+    let mut plan = plan.clone();
+    tags.iter().for_each(|&tag| plan.remove(tag));
+    plan
+}
+
+#[test]
+fn any_tag_of_the_other_family_is_both_whatever_its_type() {
+    for (family, plan) in plans() {
+        assert_eq!(of(&plan), (0, 0));
+        let others =
+            if family == Family::Strips { &[322, 323, 324, 325][..] } else { &[273, 278, 279] };
+        for &tag in others {
+            assert_eq!(of(&with(&plan, Tag::longs(tag, &[16]))), (27, 0));
+            assert_eq!(of(&with(&plan, Tag::raw(tag, 13, 0, [0; 4]))), (27, 0));
+        }
+    }
+}
+
+#[test]
+fn a_part_of_a_family_is_rule_9_and_none_of_either_is_27() {
+    for order in ORDERS {
+        let (strips, tiles) = (plan(order, &keys()), tiled(plan(order, &keys())));
+        assert_eq!(of(&without(&strips, &[273])), (9, 273));
+        assert_eq!(of(&without(&strips, &[273, 278])), (9, 273));
+        assert_eq!(of(&without(&strips, &[278, 279])), (9, 278));
+        assert_eq!(of(&without(&strips, &[273, 278, 279])), (27, 0));
+        assert_eq!(of(&without(&tiles, &[325])), (9, 325));
+        assert_eq!(of(&without(&tiles, &[322, 323, 324])), (9, 322));
+        assert_eq!(of(&without(&tiles, &[323, 324, 325])), (9, 323));
+        assert_eq!(of(&without(&tiles, &[277, 324])), (9, 277));
+        assert_eq!(of(&without(&tiles, &[324, 34735])), (9, 324));
+        assert_eq!(of(&without(&tiles, &[322, 323, 324, 325])), (27, 0));
+        assert_eq!(of(&without(&tiles, &[256, 322, 323, 324, 325])), (27, 0), "27 before 9");
+    }
+}
+
+#[test]
+fn rule_27_stands_behind_8_and_has_its_list() {
+    for order in ORDERS {
+        let plan = with(&tiled(plan(order, &keys())), Tag::longs(273, &[8, 8, 8]));
+        let (both, mut next) = (plan.lay(), plan.lay());
+        next.put_long(next.directory + 2 + 12 * next.spots.len(), 8);
+        assert_eq!(judge(&both.bytes).verdict, verdict(27, 0));
+        assert_eq!(judge(&next.bytes).verdict, verdict(8, 0));
+        let list = reading_list(&both.bytes);
+        assert_eq!(list, reading_list(&next.bytes));
+        for tag in [273, 322, 324, 34735] {
+            let spot = both.spot(tag);
+            let value = spot.value as u64..(spot.value + spot.size) as u64;
+            assert!(list.contains(&value), "{tag}");
+        }
+    }
+}
+
+#[test]
+fn offsets_of_tiles_are_long_alone() {
+    for order in ORDERS {
+        let plan = tiled(plan(order, &keys()));
+        assert_eq!(of(&with(&plan, Tag::shorts(324, &[8]))), (10, 324));
+        assert_eq!(of(&with(&plan, Tag::shorts(325, &[8]))), (0, 0));
+        for tag in [322, 323] {
+            for wide in [false, true] {
+                assert_eq!(of(&with(&plan, Tag::numbers(tag, wide, &[16]))), (0, 0));
+                assert_eq!(of(&with(&plan, Tag::numbers(tag, wide, &[16, 16]))), (10, tag.into()));
+            }
+            assert_eq!(of(&with(&plan, Tag::bytes(tag, 1, &[16]))), (10, tag.into()));
+        }
+    }
+}
+
+#[test]
+fn the_size_of_a_tile_is_a_positive_multiple_of_16_without_an_upper_limit() {
+    for order in ORDERS {
+        let plan = tiled(plan(order, &keys()));
+        for tag in [322, 323] {
+            let sized = |number: u32| of(&with(&plan, Tag::longs(tag, &[number])));
+            for number in [16, 32, 1_000_000, 1_000_016, 4_294_967_280] {
+                assert_eq!(sized(number), (0, 0), "{number}");
+            }
+            for number in [0, 1, 8, 15, 17, 4_294_967_279, 4_294_967_281, 4_294_967_295] {
+                assert_eq!(sized(number), (11, tag.into()), "{number}");
+            }
+        }
+    }
+}
+
+#[test]
+fn tiles_are_counted_across_and_down_each_rounded_up() {
+    let sizes = [
+        // the areas would give 2, 1, 1 and 1
+        ((17, 17), (16, 16), 4),
+        ((40, 1), (16, 16), 3),
+        ((1, 40), (16, 16), 3),
+        ((16, 48), (48, 16), 3),
+        // and here as many
+        ((32, 32), (16, 16), 4),
+        ((1_000_000, 1_000_000), (4_294_967_280, 4_294_967_280), 1),
+    ];
+    for order in ORDERS {
+        for ((width, length), (of_width, of_length), tiles) in sizes {
+            let mut plan = tiled(plan(order, &keys()));
+            for (tag, number) in [(256, width), (257, length), (322, of_width), (323, of_length)] {
+                plan.set(Tag::longs(tag, &[number]));
+            }
+            let counted = |offsets: usize, counts: usize| {
+                let mut plan = plan.clone();
+                plan.set_pieces(Family::Tiles, &vec![2; offsets], (true, true));
+                plan.set(Tag::longs(325, &vec![2; counts]));
+                of(&plan)
+            };
+            assert_eq!(counted(tiles, tiles), (0, 0));
+            assert_eq!(counted(tiles + 1, tiles + 1), (12, 324));
+            assert_eq!(counted(tiles, tiles + 1), (12, 325));
+            if tiles > 1 {
+                assert_eq!(counted(tiles - 1, tiles - 1), (12, 324));
+                assert_eq!(counted(tiles, tiles - 1), (12, 325));
+            }
         }
     }
 }

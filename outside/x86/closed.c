@@ -67,7 +67,7 @@ static const struct call {
     {"citation", citation}, {"metadata", metadata}, {"key_block", key_block},
 };
 
-/* Asks one call on the file as it lies there. A verdict above 22 is one of
+/* Asks one call on the file as it lies there. A verdict from 23 to 26 is one of
  * the call's own, on an accepted file. */
 static void ask(const struct call *call, const uint8_t *file, size_t len, const uint32_t want[2], struct sums *sums) {
     uint32_t got[2] = {99, 99};

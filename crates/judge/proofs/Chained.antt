@@ -1,4 +1,4 @@
--- The verdict of rules 9 to 22 is that of four stages in a row: the table, the strips, the keys, the ground. Where a stage refuses, its verdict is
+-- The verdict of rules 27 and 9 to 22 is that of four stages in a row: the table, the pieces, the keys, the ground. Where a stage refuses, its verdict is
 -- the file's; where none does, the view gives the answer. Assumes nothing.
 use Prim.Native.Nat.{ℕ}
 use mathlib.Core.Path.{_≡_, refl, sym, ap, ap₂, _∙_}
@@ -8,16 +8,16 @@ use lib.Dec.{eqb}
 use borrow.Author.Tests.{eq-eqb, ne-eqb}
 use Rattle.paper.specs.Outcome.{first, _▸_, _▷_, Rule}
 use Rattle.paper.specs.Tests.{all}
-use Rattle.paper.specs.Strips.{rule13, rule14}
+use Rattle.paper.specs.Pieces.{rule13, rule14}
 use Rattle.paper.specs.Keys.{keyRules}
-use Rattle.paper.specs.Judge.{View, viewStage, viewRules, runsOf, surveyOf, stripsOf, fullOf, groundRules}
+use Rattle.paper.specs.Judge.{View, viewStage, viewRules, runsOf, surveyOf, piecesOf, fullOf, groundRules}
 use Rattle.paper.specs.Judge as judge
 use Rattle.paper.proofs.First.{first-append, chain-zero, chain-stop}
 use Rattle.paper.specs.declared.Verdict.{Verdict}
 use Rattle.tags.specs.Tagging.{tableRules, taggedBy, taggedOf}
 use Rattle.tags.proofs.Accepted.{rules-are}
 use Rattle.judge.specs.Examining.{examinedIn, notExamined, examinedBy}
-use Rattle.judge.specs.Stages.{stripsJudged}
+use Rattle.judge.specs.Stages.{piecesJudged}
 use Rattle.judge.specs.declared.Examined.{Examined}
 
 together : (a b c : Verdict) → (a ▷ b) ▷ c ≡ a ▷ (b ▷ c)
@@ -31,8 +31,8 @@ module _ (v : View) where
   abbrev pub Table : Verdict
   Table = taggedOf v .verdict
 
-  abbrev pub Strips : Verdict
-  Strips = stripsJudged v
+  abbrev pub Pieces : Verdict
+  Pieces = piecesJudged v
 
   abbrev pub Keys : Verdict
   Keys = first (keyRules (runsOf v))
@@ -40,14 +40,14 @@ module _ (v : View) where
   abbrev pub Ground : Verdict
   Ground = first (groundRules (surveyOf v))
 
-  stage-is : viewStage v ≡ Table ▷ (Strips ▷ (Keys ▷ Ground))
-  unfolding viewStage viewRules judge.tagRules tableRules taggedOf taggedBy stripsJudged keyRules all
+  stage-is : viewStage v ≡ Table ▷ (Pieces ▷ (Keys ▷ Ground))
+  unfolding viewStage viewRules judge.tagRules tableRules taggedOf taggedBy piecesJudged keyRules all
   stage-is =
       first-append (judge.tagRules v) (keyRules (runsOf v) ++ groundRules (surveyOf v)) refl
       ∙ ap₂ (λ (a b : Verdict). a ▷ b)
-      (first-append (tableRules v) (13 ▸ rule13 (v .head .size) (stripsOf v) ∷ 14 ▸ rule14 (fullOf v) (stripsOf v) ∷ []) refl)
+      (first-append (tableRules v) (13 ▸ rule13 (v .head .size) (piecesOf v) ∷ 14 ▸ rule14 (fullOf v) (piecesOf v) ∷ []) refl)
       (first-append (keyRules (runsOf v)) (groundRules (surveyOf v)) refl)
-      ∙ together Table Strips (Keys ▷ Ground)
+      ∙ together Table Pieces (Keys ▷ Ground)
 
   refused-by : (w : Verdict) → viewStage v ≡ w → (w .number ≡ 0 → ⊥) → notExamined w ≡ examinedBy v
   unfolding examinedBy
@@ -55,22 +55,22 @@ module _ (v : View) where
 
   -- a stage refuses
   pub table-refuses : (w : Verdict) → w ≡ Table → (w .number ≡ 0 → ⊥) → notExamined w ≡ examinedBy v
-  table-refuses w e n = refused-by w (stage-is ∙ ap (λ (x : Verdict). x ▷ (Strips ▷ (Keys ▷ Ground))) (sym e) ∙ chain-stop w _ n) n
+  table-refuses w e n = refused-by w (stage-is ∙ ap (λ (x : Verdict). x ▷ (Pieces ▷ (Keys ▷ Ground))) (sym e) ∙ chain-stop w _ n) n
 
   module _ (t : Table .number ≡ 0) where
-    after-table : viewStage v ≡ Strips ▷ (Keys ▷ Ground)
+    after-table : viewStage v ≡ Pieces ▷ (Keys ▷ Ground)
     after-table = stage-is ∙ chain-zero Table _ t
 
-    pub strips-refuse : (w : Verdict) → w ≡ Strips → (w .number ≡ 0 → ⊥) → notExamined w ≡ examinedBy v
-    strips-refuse w e n = refused-by w (after-table ∙ ap (λ (x : Verdict). x ▷ (Keys ▷ Ground)) (sym e) ∙ chain-stop w _ n) n
+    pub pieces-refuse : (w : Verdict) → w ≡ Pieces → (w .number ≡ 0 → ⊥) → notExamined w ≡ examinedBy v
+    pieces-refuse w e n = refused-by w (after-table ∙ ap (λ (x : Verdict). x ▷ (Keys ▷ Ground)) (sym e) ∙ chain-stop w _ n) n
 
-    module _ (s : Strips .number ≡ 0) where
+    module _ (s : Pieces .number ≡ 0) where
       pub keys-refuse : (w : Verdict) → w ≡ Keys → (w .number ≡ 0 → ⊥) → notExamined w ≡ examinedBy v
-      keys-refuse w e n = refused-by w (after-table ∙ chain-zero Strips _ s ∙ ap (λ (x : Verdict). x ▷ Ground) (sym e) ∙ chain-stop w _ n) n
+      keys-refuse w e n = refused-by w (after-table ∙ chain-zero Pieces _ s ∙ ap (λ (x : Verdict). x ▷ Ground) (sym e) ∙ chain-stop w _ n) n
 
       module _ (k : Keys .number ≡ 0) where
         to-ground : viewStage v ≡ Ground
-        to-ground = after-table ∙ chain-zero Strips _ s ∙ chain-zero Keys _ k
+        to-ground = after-table ∙ chain-zero Pieces _ s ∙ chain-zero Keys _ k
 
         pub ground-refuses : (w : Verdict) → w ≡ Ground → (w .number ≡ 0 → ⊥) → notExamined w ≡ examinedBy v
         ground-refuses w e n = refused-by w (to-ground ∙ sym e) n

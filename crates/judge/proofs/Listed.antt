@@ -15,15 +15,15 @@ use Rattle.paper.specs.declared.Outcome.the-variants.{Kept as kept, Broken as b
 use Rattle.paper.specs.Tests.{all, some, keep}
 use Rattle.paper.specs.Layout.{dirLen, sizeOf, startOf, typed, entries, entryAt, entryOf, rule6}
 use Rattle.paper.specs.Tags.{Line, table, inTable, listed, hold}
-use Rattle.paper.specs.Strips.{Part, part, Strip, shares, valueParts, fullList, touches, rule13, rule14}
-use Rattle.paper.specs.Asked.{noStrip}
+use Rattle.paper.specs.Pieces.{Part, part, Piece, shares, valueParts, fullList, touches, rule13, rule14}
+use Rattle.paper.specs.Asked.{noPiece}
 use Rattle.paper.proofs.Laws.{and-eq, first-same}
 use Rattle.paper.proofs.Loops.{listedIs, some-values}
 use Rattle.layout.specs.Columns.{tags, fieldOf, column, startsOf, lensOf}
 use Rattle.paper.proofs.Store.{notIn, distinct}
 use Rattle.layout.proofs.Finding.{tags-distinct}
 use Rattle.layout.proofs.Values.{untyped-len}
-use Rattle.strips.specs.Gaps.{rangeAt, wide, rangesOf, placesJudged}
+use Rattle.pieces.specs.Gaps.{rangeAt, wide, rangesOf, placesJudged}
 use Rattle.paper.specs.declared.Entry.{Entry}
 
 -- ---- an entry's tag does not come again
@@ -220,7 +220,7 @@ some-keep ok is (x ∷ xs) = go (ok x) (some-keep ok is xs)
     go false e = e
 
 built-are : (is : Part → Bool) (at c : ℕ) (es : List Entry)
-    → some is (build (rangeAt (startsOf at es) (lensOf c es)) 0 19)
+    → some is (build (rangeAt (startsOf at es) (lensOf c es)) 0 23)
     ≡ some (λ t. is (part (fieldOf (λ e. e .start) t es) (fieldOf (λ e. e .len) t es))) tags || (is (part 0 8) || is (part at (dirLen c)))
 unfolding rangeAt build startsOf lensOf column tags table some
 built-are is at c es = simp (or-false, or-assoc)
@@ -237,11 +237,11 @@ some-either p q false ts h = ap (λ (b : Bool). b || false) (same ts)
 
 -- the ranges of at most 4 bytes make no difference
 ranges-are : (a : Part) (at c : ℕ) (es : List Entry) → all (inner at (dirLen c)) es ≡ true
-    → some (shares a) (rangesOf (startsOf at es) (lensOf c es) 19)
+    → some (shares a) (rangesOf (startsOf at es) (lensOf c es) 23)
     ≡ some (λ t. shares a (part (fieldOf (λ e. e .start) t es) (fieldOf (λ e. e .len) t es))) tags || (shares a (part 0 8) || shares a (part at (dirLen c)))
 unfolding rangesOf wide
 ranges-are a at c es h =
-    some-keep wide (shares a) (build (rangeAt (startsOf at es) (lensOf c es)) 0 19)
+    some-keep wide (shares a) (build (rangeAt (startsOf at es) (lensOf c es)) 0 23)
     ∙ built-are (λ x. wide x && shares a x) at c es
     ∙ ap (λ (b : Bool). some (λ t. wide (Value t) && shares a (Value t)) tags || (shares a (part 0 8) || (b && shares a (part at (dirLen c))))) (lt-ltb 4 (dirLen c) (omega arith))
     ∙ some-either (λ t. wide (Value t) && shares a (Value t)) (λ t. shares a (Value t)) Rest tags either
@@ -300,7 +300,7 @@ module _ (f : List ℕ) (big : Bool) (at c : ℕ) (dir : List ℕ) (kept6 : rule
     regroup false false false v e = or-false v
 
     -- a place shares a byte with the columns' ranges exactly where it shares one with the full reading list
-    pub columns-list : some (shares a) (rangesOf (startsOf at Es) (lensOf c Es) 19) ≡ some (shares a) (fullList table at c (map (hold table f) Es))
+    pub columns-list : some (shares a) (rangesOf (startsOf at Es) (lensOf c Es) 23) ≡ some (shares a) (fullList table at c (map (hold table f) Es))
     unfolding rule6 fullList some
     columns-list =
         ranges-are a at c Es all-inner
@@ -308,10 +308,10 @@ module _ (f : List ℕ) (big : Bool) (at c : ℕ) (dir : List ℕ) (kept6 : rule
         ∙ regroup (shares a (part 0 8)) (shares a (part at 2)) (shares a (part at (dirLen c))) _ (count-within (shares a) (shares-more a) at c)
 
   -- so rules 13 and 14 over the columns are those over the list
-  pub columns-judged : (n : ℕ) (ss : List Strip)
-      → placesJudged n (rangesOf (startsOf at Es) (lensOf c Es) 19) ss
+  pub columns-judged : (n : ℕ) (ss : List Piece)
+      → placesJudged n (rangesOf (startsOf at Es) (lensOf c Es) 23) ss
       ≡ first (13 ▸ rule13 n ss ∷ 14 ▸ rule14 (fullList table at c (map (hold table f) Es)) ss ∷ [])
   unfolding placesJudged rule14 touches
   columns-judged n ss =
       ap (λ (o : Outcome). first (13 ▸ rule13 n ss ∷ 14 ▸ o ∷ []))
-      (first-same (touches (rangesOf (startsOf at Es) (lensOf c Es) 19)) (touches (fullList table at c (map (hold table f) Es))) (λ s. s .index) ss noStrip (λ i l. columns-list (getD ss i noStrip .place)))
+      (first-same (touches (rangesOf (startsOf at Es) (lensOf c Es) 23)) (touches (fullList table at c (map (hold table f) Es))) (λ s. s .index) ss noPiece (λ i l. columns-list (getD ss i noPiece .place)))

@@ -55,11 +55,11 @@ module _ (f : List ℕ) (zero : verdictOf f .number ≡ 0) where
 
   pub fifteen : rule15 (runsOf (view f)) ≡ kept
   unfolding rules headRules countRules dirRules viewRules tagRules keyRules
-  fifteen = all-kept f zero 14
+  fifteen = all-kept f zero 15
 
   pub seventeen : rule17 (runsOf (view f)) (keys (runsOf (view f))) ≡ kept
   unfolding rules headRules countRules dirRules viewRules tagRules keyRules
-  seventeen = all-kept f zero 16
+  seventeen = all-kept f zero 17
 
   -- its entries
   abbrev Entries : List Entry
@@ -92,7 +92,7 @@ module _ (f : List ℕ) (zero : verdictOf f .number ≡ 0) where
   held-is = refl
 
   -- tag k of the table
-  pub stands : (k : ℕ) → k < 17 → Stands f (view f .held) (tagAt k)
+  pub stands : (k : ℕ) → k < 21 → Stands f (view f .held) (tagAt k)
   stands k h =
       let s = slot f _ _ _ _ _ _ _ ready k h in
       let w : find (tagAt k) Helds .entry .start + find (tagAt k) Helds .entry .len ≤ length f =
@@ -103,7 +103,7 @@ module _ (f : List ℕ) (zero : verdictOf f .number ≡ 0) where
       subst (λ (hs : List Held). Stands f hs (tagAt k)) (sym held-is) (record { bytes = b; within = w })
 
   -- it is present exactly where its value does not start at 0
-  pub present : (k : ℕ) → k < 17 → has (tagAt k) (view f .held) ≡ not (eqb (find (tagAt k) (view f .held) .entry .start) 0)
+  pub present : (k : ℕ) → k < 21 → has (tagAt k) (view f .held) ≡ not (eqb (find (tagAt k) (view f .held) .entry .start) 0)
   present k h =
       let s = slot f _ _ _ _ _ _ _ ready k h in
       let p : has (tagAt k) Helds ≡ not (eqb (find (tagAt k) Helds .entry .start) 0) =

@@ -1,7 +1,7 @@
 -- The parts of the file that the layers are handed are the runs that the paper's view holds: what a layer says of the parts, it says of the view.
 -- Assumes nothing.
 use Prim.Native.Nat.{ℕ, zero, suc, _+_, _*_, _≤_, _<_, zero-le, suc-le-suc}
-use mathlib.Core.Path.{_≡_, refl, sym, ap, ap₂, _∙_, subst}
+use mathlib.Core.Path.{_≡_, refl, sym, ap, _∙_, subst}
 use mathlib.Core.Bool.{Bool, true, false, cond, not, _||_, false≢true}
 use mathlib.Core.Logic.{_⊎_, inl, inr}
 use mathlib.Core.List.{List, [], _∷_, _++_}
@@ -9,39 +9,38 @@ use native.Mathlib.Nat.{mul-le-mul}
 use native.Mathlib.Omega.{arith}
 use lib.Dec.{eqb, lit<}
 use lib.ListN.{length, getD, List·getD-append}
-use borrow.Author.Tests.{eq-eqb, eqb-true, le-ltb}
+use borrow.Author.Tests.{eqb-true, le-ltb}
 use Rattle.order.specs.Width.{width}
 use Rattle.paper.specs.Bytes.{run, build}
 use Rattle.paper.specs.Tests.{keep}
 use Rattle.paper.specs.Outcome.{first, verdict}
 use Rattle.paper.specs.Layout.{dirLen, sizeOf}
 use Rattle.paper.specs.Tag
-use Rattle.paper.specs.Tags.{table, find, valueOf, bytesOf, countOf}
-use Rattle.paper.specs.Strips.{Part as Range, part, placesOf, strips, fullList, rule13, rule14}
-use Rattle.paper.specs.Keys.{Runs, keyCount, keys, keyValue, keyRules}
-use Rattle.paper.specs.Ground.{Survey, georeference, corners}
-use Rattle.paper.specs.Judge.{View, runsOf, surveyOf, stripsOf, fullOf, groundRules}
+use Rattle.paper.specs.Tags.{table, find, countOf, tiled, offsetsTag, byteCountsTag, pieceCount}
+use Rattle.paper.specs.Pieces.{Part as Range, part, placesOf, pieces}
+use Rattle.paper.specs.Keys.{keyCount, keys, keyValue, keyRules}
+use Rattle.paper.specs.Ground.{georeference, corners}
+use Rattle.paper.specs.Judge.{View, runsOf, surveyOf, piecesOf, fullOf, groundRules}
 use Rattle.paper.specs.Calls.{judgedIn}
 use Rattle.layout.specs.Columns.{tags, column, startsOf, lensOf}
-use Rattle.tags.specs.Slots.{lineAt, tagAt}
-use Rattle.tags.specs.Tagging.{entriesAt, heldAt, viewOf, taggedOf, Ready}
+use Rattle.tags.specs.Slots.{lineAt, tagAt, offsetsSlot, byteCountsSlot}
+use Rattle.tags.specs.Tagging.{entriesAt, heldAt, viewOf}
 use Rattle.tags.proofs.Slots.{Slot, slot}
-use Rattle.tags.proofs.Rules.{Lined, lined, needed-lined}
-use Rattle.tags.proofs.Accepted.{Accepted, accepted, FixedColumn}
+use Rattle.tags.proofs.Rules.{lined, needed-lined}
+use Rattle.tags.proofs.Accepted.{Accepted, accepted, PieceColumn}
 use Rattle.keys.specs.Pass.{runs, keysJudged}
 use Rattle.keys.proofs.Judged as judged
 use Rattle.ground.specs.Answer.{Holds, Sized, groundJudged}
 use Rattle.ground.proofs.Taken as taken
-use Rattle.strips.specs.Gaps.{Low, rangeAt, wide, rangesOf, placesJudged}
+use Rattle.pieces.specs.Gaps.{Low, rangeAt, wide, rangesOf, placesJudged}
 use Rattle.paper.specs.declared.Verdict.{Verdict}
 use Rattle.keys.specs.declared.KeysJudged.{KeysJudged}
 use Rattle.ground.specs.declared.Ground.{Ground}
 use Rattle.judge.specs.Examining.{runOf, examinedIn, notExamined, examinedBy}
-use Rattle.judge.specs.Stages.{Passed, Fits, Placed, stripsJudged, outerOf}
+use Rattle.judge.specs.Stages.{Fits, Placed, piecesJudged, outerOf}
 use Rattle.judge.specs.declared.Examined.{Examined}
-use Rattle.judge.specs.declared.Run.{Run}
 use Rattle.judge.proofs.Listed.{columns-judged}
-use Rattle.judge.proofs.Chained.{table-refuses, strips-refuse, keys-refuse, ground-refuses, none-refuses}
+use Rattle.judge.proofs.Chained.{keys-refuse, ground-refuses, none-refuses}
 
 -- ---- the keys and the ground
 
@@ -55,28 +54,28 @@ module _ (f : List ℕ) (big : Bool) (at c : ℕ) (starts lens : List ℕ) (w l 
   known : Accepted f big at c (p .typs) (p .counts) starts lens
   known = accepted f big at c (p .typs) (p .counts) starts lens (p .fits .passed .ready) (p .fits .twelve)
 
-  pub within : (k : ℕ) → k < 17 → getD starts k 0 + getD lens k 0 ≤ length f
+  pub within : (k : ℕ) → k < 21 → getD starts k 0 + getD lens k 0 ≤ length f
   within k h = slot f big at c (p .typs) (p .counts) starts lens (p .fits .passed .ready) k h .within
 
-  runs-are : runs big (Part 13) (Part 14) (Part 15) ≡ runsOf Seen
+  runs-are : runs big (Part 17) (Part 18) (Part 19) ≡ runsOf Seen
   unfolding runsOf viewOf
   runs-are =
       λ i. record { big = big; directory = sym (known .directory .bytes) i; doubles = sym (known .doubles .bytes) i; characters = sym (known .characters .bytes) i }
 
   -- what the layer of the keys answered, of the view
-  pub keys-seen : (k : KeysJudged) → k ≡ keysJudged (runs big (Part 13) (Part 14) (Part 15)) → k ≡ keysJudged (runsOf Seen)
+  pub keys-seen : (k : KeysJudged) → k ≡ keysJudged (runs big (Part 17) (Part 18) (Part 19)) → k ≡ keysJudged (runsOf Seen)
   keys-seen k e = e ∙ ap keysJudged runs-are
 
   sized-one : (n : ℕ) (s : List ℕ) (b : Bool) → length s ≡ cond b 0 n → Holds 0 s ⊎ Holds n s
   sized-one n s true h = inl h
   sized-one n s false h = inr h
 
-  pub sized : Sized (Part 10) (Part 11) (Part 12)
+  pub sized : Sized (Part 14) (Part 15) (Part 16)
   sized =
       record {
-        scale = sized-one 24 (Part 10) (eqb (getD starts 10 0) 0) (known .scale .room);
-        tiepoint = sized-one 48 (Part 11) (eqb (getD starts 11 0) 0) (known .tiepoint .room);
-        matrix = sized-one 128 (Part 12) (eqb (getD starts 12 0) 0) (known .matrix .room);
+        scale = sized-one 24 (Part 14) (eqb (getD starts 14 0) 0) (known .scale .room);
+        tiepoint = sized-one 48 (Part 15) (eqb (getD starts 15 0) 0) (known .tiepoint .room);
+        matrix = sized-one 128 (Part 16) (eqb (getD starts 16 0) 0) (known .matrix .room);
       }
 
   module _ (k : KeysJudged) (is : k ≡ keysJudged (runsOf Seen)) where
@@ -99,7 +98,7 @@ module _ (f : List ℕ) (big : Bool) (at c : ℕ) (starts lens : List ℕ) (w l 
       point-is : k .point ≡ eqb (keyValue 1025 (keys (runsOf Seen))) 2
       point-is = ap (λ (x : KeysJudged). x .point) is ∙ judged.accepted (runsOf Seen) judged-zero .1
 
-      survey-is : record { big = big; scale = Part 10; tiepoint = Part 11; matrix = Part 12; width = w; length = l; point = k .point } ≡ surveyOf Seen
+      survey-is : record { big = big; scale = Part 14; tiepoint = Part 15; matrix = Part 16; width = w; length = l; point = k .point } ≡ surveyOf Seen
       unfolding surveyOf viewOf
       survey-is =
           λ i. record {
@@ -113,7 +112,7 @@ module _ (f : List ℕ) (big : Bool) (at c : ℕ) (starts lens : List ℕ) (w l 
           }
 
       module _ (g : Ground)
-          (so : g ≡ groundJudged (record { big = big; scale = Part 10; tiepoint = Part 11; matrix = Part 12; width = w; length = l; point = k .point })) where
+          (so : g ≡ groundJudged (record { big = big; scale = Part 14; tiepoint = Part 15; matrix = Part 16; width = w; length = l; point = k .point })) where
         ground-is : g ≡ groundJudged (surveyOf Seen)
         ground-is = so ∙ ap groundJudged survey-is
 
@@ -132,20 +131,20 @@ module _ (f : List ℕ) (big : Bool) (at c : ℕ) (starts lens : List ℕ) (w l 
             → record {
               judged = record { verdict = verdict 0 0; keys = k .keys; georeference = g .georeference; corners = g .corners };
               big = big;
-              directory = record { start = getD starts 13 0; len = getD lens 13 0 };
-              doubles = record { start = getD starts 14 0; len = getD lens 14 0 };
-              characters = record { start = getD starts 15 0; len = getD lens 15 0 };
-              metadata = record { start = getD starts 16 0; len = getD lens 16 0 };
+              directory = record { start = getD starts 17 0; len = getD lens 17 0 };
+              doubles = record { start = getD starts 18 0; len = getD lens 18 0 };
+              characters = record { start = getD starts 19 0; len = getD lens 19 0 };
+              metadata = record { start = getD starts 20 0; len = getD lens 20 0 };
             }
             ≡ examinedBy Seen
         unfolding examinedIn judgedIn viewOf
         all-good y =
             let q : first (groundRules (surveyOf Seen)) .number ≡ 0 = ap (λ (x : Verdict). x .number) (sym place-is) ∙ y in
             let h = ground-is ∙ taken.accepted (surveyOf Seen) q in
-            let d = run-is 34735 13 (known .directory) in
-            let x = run-is 34736 14 (known .doubles) in
-            let ch = run-is 34737 15 (known .characters) in
-            let m = run-is 50909 16 (known .metadata) in
+            let d = run-is 34735 17 (known .directory) in
+            let x = run-is 34736 18 (known .doubles) in
+            let ch = run-is 34737 19 (known .characters) in
+            let m = run-is 50909 20 (known .metadata) in
             (λ i. record {
               judged = record { verdict = verdict 0 0; keys = keys-are i; georeference = h i .georeference; corners = h i .corners };
               big = big;
@@ -156,7 +155,7 @@ module _ (f : List ℕ) (big : Bool) (at c : ℕ) (starts lens : List ℕ) (w l 
             })
             ∙ sym (none-refuses Seen (p .fits .twelve) (p .fourteen) keys-zero q)
 
--- ---- the strips
+-- ---- the pieces
 
 -- a list without the ranges that do not count
 keep-out : (x : Range) (xs ys : List Range) → wide x ≡ false → keep wide ys ≡ keep wide xs → keep wide ys ≡ keep wide (x ∷ xs)
@@ -167,11 +166,15 @@ keep-both : (x : Range) (xs ys : List Range) → keep wide ys ≡ keep wide xs �
 unfolding keep
 keep-both x xs ys e = ap (λ (zs : List Range). cond (wide x) (x ∷ zs) zs) e
 
-outer-kept : (ps : ℕ → Range) → wide (ps 0) ≡ false → wide (ps 1) ≡ false → wide (ps 3) ≡ false → wide (ps 4) ≡ false → wide (ps 6) ≡ false → wide (ps 7) ≡ false → wide (ps 9) ≡ false
-    → keep wide (ps 2 ∷ ps 5 ∷ ps 8 ∷ ps 10 ∷ ps 11 ∷ ps 12 ∷ ps 13 ∷ ps 14 ∷ ps 15 ∷ ps 16 ∷ ps 17 ∷ ps 18 ∷ [])
-    ≡ keep wide (ps 0 ∷ ps 1 ∷ ps 2 ∷ ps 3 ∷ ps 4 ∷ ps 5 ∷ ps 6 ∷ ps 7 ∷ ps 8 ∷ ps 9 ∷ ps 10 ∷ ps 11 ∷ ps 12 ∷ ps 13 ∷ ps 14 ∷ ps 15 ∷ ps 16 ∷ ps 17 ∷ ps 18 ∷ [])
-outer-kept ps h0 h1 h3 h4 h6 h7 h9 =
-    keep-out (ps 0) _ _ h0 (keep-out (ps 1) _ _ h1 (keep-both (ps 2) _ _ (keep-out (ps 3) _ _ h3 (keep-out (ps 4) _ _ h4 (keep-both (ps 5) _ _ (keep-out (ps 6) _ _ h6 (keep-out (ps 7) _ _ h7 (keep-both (ps 8) _ _ (keep-out (ps 9) _ _ h9 (keep-both (ps 10) _ _ (keep-both (ps 11) _ _ (keep-both (ps 12) _ _ (keep-both (ps 13) _ _ (keep-both (ps 14) _ _ (keep-both (ps 15) _ _ (keep-both (ps 16) _ _ (keep-both (ps 17) _ _ (keep-both (ps 18) _ _ refl))))))))))))))))))
+outer-strips : (ps : ℕ → Range) → wide (ps 0) ≡ false → wide (ps 1) ≡ false → wide (ps 3) ≡ false → wide (ps 4) ≡ false → wide (ps 6) ≡ false → wide (ps 7) ≡ false → wide (ps 9) ≡ false → wide (ps 10) ≡ false → wide (ps 11) ≡ false → wide (ps 12) ≡ false → wide (ps 13) ≡ false
+    → keep wide (ps 2 ∷ ps 5 ∷ ps 8 ∷ ps 14 ∷ ps 15 ∷ ps 16 ∷ ps 17 ∷ ps 18 ∷ ps 19 ∷ ps 20 ∷ ps 21 ∷ ps 22 ∷ []) ≡ keep wide (ps 0 ∷ ps 1 ∷ ps 2 ∷ ps 3 ∷ ps 4 ∷ ps 5 ∷ ps 6 ∷ ps 7 ∷ ps 8 ∷ ps 9 ∷ ps 10 ∷ ps 11 ∷ ps 12 ∷ ps 13 ∷ ps 14 ∷ ps 15 ∷ ps 16 ∷ ps 17 ∷ ps 18 ∷ ps 19 ∷ ps 20 ∷ ps 21 ∷ ps 22 ∷ [])
+outer-strips ps h0 h1 h3 h4 h6 h7 h9 h10 h11 h12 h13 =
+    keep-out (ps 0) _ _ h0 (keep-out (ps 1) _ _ h1 (keep-both (ps 2) _ _ (keep-out (ps 3) _ _ h3 (keep-out (ps 4) _ _ h4 (keep-both (ps 5) _ _ (keep-out (ps 6) _ _ h6 (keep-out (ps 7) _ _ h7 (keep-both (ps 8) _ _ (keep-out (ps 9) _ _ h9 (keep-out (ps 10) _ _ h10 (keep-out (ps 11) _ _ h11 (keep-out (ps 12) _ _ h12 (keep-out (ps 13) _ _ h13 (keep-both (ps 14) _ _ (keep-both (ps 15) _ _ (keep-both (ps 16) _ _ (keep-both (ps 17) _ _ (keep-both (ps 18) _ _ (keep-both (ps 19) _ _ (keep-both (ps 20) _ _ (keep-both (ps 21) _ _ (keep-both (ps 22) _ _ refl))))))))))))))))))))))
+
+outer-tiles : (ps : ℕ → Range) → wide (ps 0) ≡ false → wide (ps 1) ≡ false → wide (ps 3) ≡ false → wide (ps 4) ≡ false → wide (ps 6) ≡ false → wide (ps 7) ≡ false → wide (ps 9) ≡ false → wide (ps 10) ≡ false → wide (ps 11) ≡ false → wide (ps 5) ≡ false → wide (ps 8) ≡ false
+    → keep wide (ps 2 ∷ ps 12 ∷ ps 13 ∷ ps 14 ∷ ps 15 ∷ ps 16 ∷ ps 17 ∷ ps 18 ∷ ps 19 ∷ ps 20 ∷ ps 21 ∷ ps 22 ∷ []) ≡ keep wide (ps 0 ∷ ps 1 ∷ ps 2 ∷ ps 3 ∷ ps 4 ∷ ps 5 ∷ ps 6 ∷ ps 7 ∷ ps 8 ∷ ps 9 ∷ ps 10 ∷ ps 11 ∷ ps 12 ∷ ps 13 ∷ ps 14 ∷ ps 15 ∷ ps 16 ∷ ps 17 ∷ ps 18 ∷ ps 19 ∷ ps 20 ∷ ps 21 ∷ ps 22 ∷ [])
+outer-tiles ps h0 h1 h3 h4 h6 h7 h9 h10 h11 h5 h8 =
+    keep-out (ps 0) _ _ h0 (keep-out (ps 1) _ _ h1 (keep-both (ps 2) _ _ (keep-out (ps 3) _ _ h3 (keep-out (ps 4) _ _ h4 (keep-out (ps 5) _ _ h5 (keep-out (ps 6) _ _ h6 (keep-out (ps 7) _ _ h7 (keep-out (ps 8) _ _ h8 (keep-out (ps 9) _ _ h9 (keep-out (ps 10) _ _ h10 (keep-out (ps 11) _ _ h11 (keep-both (ps 12) _ _ (keep-both (ps 13) _ _ (keep-both (ps 14) _ _ (keep-both (ps 15) _ _ (keep-both (ps 16) _ _ (keep-both (ps 17) _ _ (keep-both (ps 18) _ _ (keep-both (ps 19) _ _ (keep-both (ps 20) _ _ (keep-both (ps 21) _ _ (keep-both (ps 22) _ _ refl))))))))))))))))))))))
 
 -- two lists of low numbers, one after the other
 low-parts : (xs ys zs : List ℕ) → zs ≡ xs ++ ys → ((k : ℕ) → k < length xs → getD zs k 0 < 68719476736) → Low ys → Low zs
@@ -185,43 +188,29 @@ low-parts xs ys zs e h t i = subst (λ (l : List ℕ). getD l i 0 < 68719476736)
     go (x ∷ bs) zero a = a 0 (suc-le-suc zero-le)
     go (x ∷ bs) (suc j) a = go bs j (λ k l. a (suc k) (suc-le-suc l))
 
-module _ (f : List ℕ) (big : Bool) (at c : ℕ) (typs counts starts lens : List ℕ) (p : Fits f big at c typs counts starts lens) where
+module _ (f : List ℕ) (big : Bool) (at c : ℕ) (t : Bool) (typs counts starts lens : List ℕ) (p : Fits f big at c t typs counts starts lens) where
   abbrev Looked : View
   Looked = viewOf f big at c
 
-  abbrev Piece : ℕ → List ℕ
-  Piece k = run f (getD starts k 0) (getD lens k 0)
+  abbrev Stood : ℕ → List ℕ
+  Stood k = run f (getD starts k 0) (getD lens k 0)
 
   told : Accepted f big at c typs counts starts lens
   told = accepted f big at c typs counts starts lens (p .passed .ready) (p .twelve)
 
-  pub slot-within : (k : ℕ) → k < 17 → getD starts k 0 + getD lens k 0 ≤ length f
+  pub slot-within : (k : ℕ) → k < 21 → getD starts k 0 + getD lens k 0 ≤ length f
   slot-within k h = slot f big at c typs counts starts lens (p .passed .ready) k h .within
 
-  pub few : getD counts 5 0 < 4294967296
-  unfolding lineAt tagAt table
-  few =
-      let h = needed-lined (heldAt f big at c) (told .nine) (told .ten) 5 (lit< tt) refl .high in
-      let s = told .offsets .slot .count in
-      omega arith
+  known-count : (k : ℕ) → k < 21 → countOf (tagAt k) (heldAt f big at c) ≡ getD counts k 0
+  known-count k h = slot f big at c typs counts starts lens (p .passed .ready) k h .count
 
-  pub offsets-room : width (eqb (getD typs 5 0) 4) * getD counts 5 0 ≤ length (Piece 5)
-  offsets-room = told .offsets .room
-
-  pub sizes-room : width (eqb (getD typs 8 0) 4) * getD counts 5 0 ≤ length (Piece 8)
-  sizes-room = subst (λ (k : ℕ). width (eqb (getD typs 8 0) 4) * k ≤ length (Piece 8)) (sym (told .as-many)) (told .sizes .room)
-
-  places-are : placesOf big (width (eqb (getD typs 5 0) 4)) (Piece 5) (width (eqb (getD typs 8 0) 4)) (Piece 8) (getD counts 5 0) ≡ stripsOf Looked
-  unfolding stripsOf strips viewOf
-  places-are =
-      let o = told .offsets in
-      let s = told .sizes in
-      let a : width (eqb (getD typs 5 0) 4) ≡ sizeOf (find 273 (heldAt f big at c) .entry .typ) = sym (o .wide) ∙ ap sizeOf (sym (o .slot .typ)) in
-      let b : width (eqb (getD typs 8 0) 4) ≡ sizeOf (find 279 (heldAt f big at c) .entry .typ) = sym (s .wide) ∙ ap sizeOf (sym (s .slot .typ)) in
-      λ i. placesOf big (a i) (sym (o .slot .bytes) i) (b i) (sym (s .slot .bytes) i) (sym (o .slot .count) i)
+  few-at : (v : Bool) → v ≡ tiled (heldAt f big at c) → getD counts (offsetsSlot v) 0 < 4294967296
+  unfolding lineAt tagAt table offsetsSlot
+  few-at true e = let h = needed-lined (heldAt f big at c) (told .nine) (told .ten) 12 (lit< tt) (sym e) .high in let s = known-count 12 (lit< tt) in omega arith
+  few-at false e = let h = needed-lined (heldAt f big at c) (told .nine) (told .ten) 5 (lit< tt) (ap not (sym e)) .high in let s = known-count 5 (lit< tt) in omega arith
 
   -- a tag with one SHORT or LONG has its value in its entry
-  short-slot : (k : ℕ) → k < 17 → sizeOf (lineAt k .type) ≤ 4 → sizeOf (lineAt k .other) ≤ 4 → lineAt k .most ≡ 1 → getD lens k 0 ≤ 4
+  short-slot : (k : ℕ) → k < 21 → sizeOf (lineAt k .type) ≤ 4 → sizeOf (lineAt k .other) ≤ 4 → lineAt k .most ≡ 1 → getD lens k 0 ≤ 4
   short-slot k h a b m = go (eqb (getD starts k 0) 0) refl
     where
       Here : Slot f (heldAt f big at c) typs counts starts lens (tagAt k) k
@@ -252,17 +241,43 @@ module _ (f : List ℕ) (big : Bool) (at c : ℕ) (typs counts starts lens : Lis
   unfolding wide
   short-range k h = le-ltb 4 (getD lens k 0) h
 
-  outer-ranges : rangesOf (outerOf starts) (outerOf lens) 12 ≡ rangesOf starts lens 19
-  unfolding rangesOf rangeAt build outerOf lineAt tagAt table sizeOf
-  outer-ranges =
-      outer-kept (λ k. part (getD starts k 0) (getD lens k 0))
-      (short-range 0 (short-slot 0 (lit< tt) (omega arith) (omega arith) refl))
-      (short-range 1 (short-slot 1 (lit< tt) (omega arith) (omega arith) refl))
-      (short-range 3 (short-slot 3 (lit< tt) (omega arith) (omega arith) refl))
-      (short-range 4 (short-slot 4 (lit< tt) (omega arith) (omega arith) refl))
-      (short-range 6 (short-slot 6 (lit< tt) (omega arith) (omega arith) refl))
-      (short-range 7 (short-slot 7 (lit< tt) (omega arith) (omega arith) refl))
-      (short-range 9 (short-slot 9 (lit< tt) (omega arith) (omega arith) refl))
+  -- and a tag of the family that is absent has no bytes
+  none-range : (k : ℕ) → getD lens k 0 ≡ 0 → wide (part (getD starts k 0) (getD lens k 0)) ≡ false
+  none-range k z = short-range k (omega arith)
+
+  ranges-at : (v : Bool) → v ≡ tiled (heldAt f big at c)
+      → rangesOf (outerOf starts (offsetsSlot v) (byteCountsSlot v)) (outerOf lens (offsetsSlot v) (byteCountsSlot v)) 12 ≡ rangesOf starts lens 23
+  unfolding rangesOf rangeAt build outerOf lineAt tagAt table sizeOf offsetsSlot byteCountsSlot
+  ranges-at v e = go v e (told .no-offsets) (told .no-sizes)
+    where
+      go : (v : Bool) → v ≡ tiled (heldAt f big at c) → getD lens (offsetsSlot (not (tiled (heldAt f big at c)))) 0 ≡ 0 → getD lens (byteCountsSlot (not (tiled (heldAt f big at c)))) 0 ≡ 0
+          → rangesOf (outerOf starts (offsetsSlot v) (byteCountsSlot v)) (outerOf lens (offsetsSlot v) (byteCountsSlot v)) 12 ≡ rangesOf starts lens 23
+      go true e x y =
+          outer-tiles (λ k. part (getD starts k 0) (getD lens k 0))
+          (short-range 0 (short-slot 0 (lit< tt) (omega arith) (omega arith) refl))
+          (short-range 1 (short-slot 1 (lit< tt) (omega arith) (omega arith) refl))
+          (short-range 3 (short-slot 3 (lit< tt) (omega arith) (omega arith) refl))
+          (short-range 4 (short-slot 4 (lit< tt) (omega arith) (omega arith) refl))
+          (short-range 6 (short-slot 6 (lit< tt) (omega arith) (omega arith) refl))
+          (short-range 7 (short-slot 7 (lit< tt) (omega arith) (omega arith) refl))
+          (short-range 9 (short-slot 9 (lit< tt) (omega arith) (omega arith) refl))
+          (short-range 10 (short-slot 10 (lit< tt) (omega arith) (omega arith) refl))
+          (short-range 11 (short-slot 11 (lit< tt) (omega arith) (omega arith) refl))
+          (none-range 5 (rw (← e) at x))
+          (none-range 8 (rw (← e) at y))
+      go false e x y =
+          outer-strips (λ k. part (getD starts k 0) (getD lens k 0))
+          (short-range 0 (short-slot 0 (lit< tt) (omega arith) (omega arith) refl))
+          (short-range 1 (short-slot 1 (lit< tt) (omega arith) (omega arith) refl))
+          (short-range 3 (short-slot 3 (lit< tt) (omega arith) (omega arith) refl))
+          (short-range 4 (short-slot 4 (lit< tt) (omega arith) (omega arith) refl))
+          (short-range 6 (short-slot 6 (lit< tt) (omega arith) (omega arith) refl))
+          (short-range 7 (short-slot 7 (lit< tt) (omega arith) (omega arith) refl))
+          (short-range 9 (short-slot 9 (lit< tt) (omega arith) (omega arith) refl))
+          (short-range 10 (short-slot 10 (lit< tt) (omega arith) (omega arith) refl))
+          (short-range 11 (short-slot 11 (lit< tt) (omega arith) (omega arith) refl))
+          (none-range 12 (rw (← e) at x))
+          (none-range 13 (rw (← e) at y))
 
   -- the size of the file
   pub file-eight : 8 ≤ length f
@@ -273,18 +288,6 @@ module _ (f : List ℕ) (big : Bool) (at c : ℕ) (typs counts starts lens : Lis
 
   pub file-size : length f ≤ 4294967295
   file-size = p .passed .ready .size
-
-  -- what the pass over the places answered, of the view
-  pub strips-seen : (v : Verdict)
-      → v ≡ placesJudged (length f) (rangesOf (outerOf starts) (outerOf lens) 12) (placesOf big (width (eqb (getD typs 5 0) 4)) (Piece 5) (width (eqb (getD typs 8 0) 4)) (Piece 8) (getD counts 5 0))
-      → v ≡ stripsJudged Looked
-  unfolding stripsJudged fullOf viewOf entriesAt heldAt
-  strips-seen v e =
-      let r = p .passed .ready in
-      e
-      ∙ ap (λ (ps : List Range). placesJudged (length f) ps (placesOf big (width (eqb (getD typs 5 0) 4)) (Piece 5) (width (eqb (getD typs 8 0) 4)) (Piece 8) (getD counts 5 0))) outer-ranges
-      ∙ (λ i. placesJudged (length f) (rangesOf (r .starts-are i) (r .lens-are i) 19) (places-are i))
-      ∙ columns-judged f big at c (run f at (dirLen c)) (p .passed .six) (length f) (stripsOf Looked)
 
   -- the numbers of the columns lie in the file
   pub starts-low : Low starts
@@ -309,23 +312,70 @@ module _ (f : List ℕ) (big : Bool) (at c : ℕ) (typs counts starts lens : Lis
       rest (suc zero) = let w = p .passed .ready .few in omega arith
       rest (suc (suc k)) = lit< tt
 
--- the outer part of a column of low numbers
-pub outer-low : (xs : List ℕ) → Low xs → Low (outerOf xs)
-unfolding outerOf
-outer-low xs h zero = h 2
-outer-low xs h (suc zero) = h 5
-outer-low xs h (suc (suc zero)) = h 8
-outer-low xs h (suc (suc (suc zero))) = h 10
-outer-low xs h (suc (suc (suc (suc zero)))) = h 11
-outer-low xs h (suc (suc (suc (suc (suc zero))))) = h 12
-outer-low xs h (suc (suc (suc (suc (suc (suc zero)))))) = h 13
-outer-low xs h (suc (suc (suc (suc (suc (suc (suc zero))))))) = h 14
-outer-low xs h (suc (suc (suc (suc (suc (suc (suc (suc zero)))))))) = h 15
-outer-low xs h (suc (suc (suc (suc (suc (suc (suc (suc (suc zero))))))))) = h 16
-outer-low xs h (suc (suc (suc (suc (suc (suc (suc (suc (suc (suc zero)))))))))) = h 17
-outer-low xs h (suc (suc (suc (suc (suc (suc (suc (suc (suc (suc (suc zero))))))))))) = h 18
-outer-low xs h (suc (suc (suc (suc (suc (suc (suc (suc (suc (suc (suc (suc k)))))))))))) = lit< tt
+  -- the pieces, whose offsets have slot x and byte counts slot y
+  module _ (x y : ℕ) (is-x : x ≡ offsetsSlot t) (is-y : y ≡ byteCountsSlot t) where
+    offsets-at : x ≡ offsetsSlot (tiled (heldAt f big at c))
+    offsets-at = is-x ∙ ap offsetsSlot (p .tiled-is)
 
-pub outer-length : (xs : List ℕ) → 12 ≤ length (outerOf xs)
+    sizes-at : y ≡ byteCountsSlot (tiled (heldAt f big at c))
+    sizes-at = is-y ∙ ap byteCountsSlot (p .tiled-is)
+
+    offsets : PieceColumn f (heldAt f big at c) typs counts starts lens (pieceCount big (heldAt f big at c)) (offsetsTag (heldAt f big at c)) x
+    offsets = subst (PieceColumn f (heldAt f big at c) typs counts starts lens (pieceCount big (heldAt f big at c)) (offsetsTag (heldAt f big at c))) (sym offsets-at) (told .offsets)
+
+    sizes : PieceColumn f (heldAt f big at c) typs counts starts lens (pieceCount big (heldAt f big at c)) (byteCountsTag (heldAt f big at c)) y
+    sizes = subst (PieceColumn f (heldAt f big at c) typs counts starts lens (pieceCount big (heldAt f big at c)) (byteCountsTag (heldAt f big at c))) (sym sizes-at) (told .sizes)
+
+    pub few : getD counts x 0 < 4294967296
+    few = subst (λ (k : ℕ). getD counts k 0 < 4294967296) (sym is-x) (few-at t (p .tiled-is))
+
+    pub offsets-room : width (eqb (getD typs x 0) 4) * getD counts x 0 ≤ length (Stood x)
+    offsets-room = offsets .room
+
+    pub sizes-room : width (eqb (getD typs y 0) 4) * getD counts x 0 ≤ length (Stood y)
+    sizes-room = subst (λ (k : ℕ). width (eqb (getD typs y 0) 4) * k ≤ length (Stood y)) (sizes .count ∙ sym (offsets .count)) (sizes .room)
+
+    places-are : placesOf big (width (eqb (getD typs x 0) 4)) (Stood x) (width (eqb (getD typs y 0) 4)) (Stood y) (getD counts x 0) ≡ piecesOf Looked
+    unfolding piecesOf pieces viewOf
+    places-are =
+        let o = offsets in
+        let s = sizes in
+        let a : width (eqb (getD typs x 0) 4) ≡ sizeOf (find (offsetsTag (heldAt f big at c)) (heldAt f big at c) .entry .typ) = sym (o .wide) ∙ ap sizeOf (sym (o .slot .typ)) in
+        let b : width (eqb (getD typs y 0) 4) ≡ sizeOf (find (byteCountsTag (heldAt f big at c)) (heldAt f big at c) .entry .typ) = sym (s .wide) ∙ ap sizeOf (sym (s .slot .typ)) in
+        λ i. placesOf big (a i) (sym (o .slot .bytes) i) (b i) (sym (s .slot .bytes) i) (sym (o .slot .count) i)
+
+    outer-ranges : rangesOf (outerOf starts x y) (outerOf lens x y) 12 ≡ rangesOf starts lens 23
+    outer-ranges = (λ i. rangesOf (outerOf starts (is-x i) (is-y i)) (outerOf lens (is-x i) (is-y i)) 12) ∙ ranges-at t (p .tiled-is)
+
+    -- what the pass over the places answered, of the view
+    pub pieces-seen : (v : Verdict)
+        → v ≡ placesJudged (length f) (rangesOf (outerOf starts x y) (outerOf lens x y) 12) (placesOf big (width (eqb (getD typs x 0) 4)) (Stood x) (width (eqb (getD typs y 0) 4)) (Stood y) (getD counts x 0))
+        → v ≡ piecesJudged Looked
+    unfolding piecesJudged fullOf viewOf entriesAt heldAt
+    pieces-seen v e =
+        let r = p .passed .ready in
+        e
+        ∙ ap (λ (ps : List Range). placesJudged (length f) ps (placesOf big (width (eqb (getD typs x 0) 4)) (Stood x) (width (eqb (getD typs y 0) 4)) (Stood y) (getD counts x 0))) outer-ranges
+        ∙ (λ i. placesJudged (length f) (rangesOf (r .starts-are i) (r .lens-are i) 23) (places-are i))
+        ∙ columns-judged f big at c (run f at (dirLen c)) (p .passed .six) (length f) (piecesOf Looked)
+
+-- the outer part of a column of low numbers
+pub outer-low : (xs : List ℕ) (a b : ℕ) → Low xs → Low (outerOf xs a b)
 unfolding outerOf
-outer-length xs = omega arith
+outer-low xs a b h zero = h 2
+outer-low xs a b h (suc zero) = h a
+outer-low xs a b h (suc (suc zero)) = h b
+outer-low xs a b h (suc (suc (suc zero))) = h 14
+outer-low xs a b h (suc (suc (suc (suc zero)))) = h 15
+outer-low xs a b h (suc (suc (suc (suc (suc zero))))) = h 16
+outer-low xs a b h (suc (suc (suc (suc (suc (suc zero)))))) = h 17
+outer-low xs a b h (suc (suc (suc (suc (suc (suc (suc zero))))))) = h 18
+outer-low xs a b h (suc (suc (suc (suc (suc (suc (suc (suc zero)))))))) = h 19
+outer-low xs a b h (suc (suc (suc (suc (suc (suc (suc (suc (suc zero))))))))) = h 20
+outer-low xs a b h (suc (suc (suc (suc (suc (suc (suc (suc (suc (suc zero)))))))))) = h 21
+outer-low xs a b h (suc (suc (suc (suc (suc (suc (suc (suc (suc (suc (suc zero))))))))))) = h 22
+outer-low xs a b h (suc (suc (suc (suc (suc (suc (suc (suc (suc (suc (suc (suc k)))))))))))) = lit< tt
+
+pub outer-length : (xs : List ℕ) (a b : ℕ) → 12 ≤ length (outerOf xs a b)
+unfolding outerOf
+outer-length xs a b = omega arith

@@ -7,9 +7,9 @@ use lib.ListN.{getD}
 use Rattle.paper.specs.Outcome.{first, _▸_}
 use Rattle.paper.specs.Layout.{rule6}
 use Rattle.paper.specs.Tag
-use Rattle.paper.specs.Tags.{valueOf}
-use Rattle.paper.specs.Strips.{rule13, rule14}
-use Rattle.paper.specs.Judge.{View, stripsOf, fullOf, tagRules}
+use Rattle.paper.specs.Tags.{valueOf, tiled}
+use Rattle.paper.specs.Pieces.{rule13, rule14}
+use Rattle.paper.specs.Judge.{View, piecesOf, fullOf, tagRules}
 use Rattle.paper.specs.declared.Outcome.the-variants.{Kept as kept}
 use Rattle.paper.specs.declared.Verdict.{Verdict}
 use Rattle.tags.specs.Tagging.{entriesAt, heldAt, viewOf, taggedOf, Ready}
@@ -19,37 +19,40 @@ pub record Passed (f : List ℕ) (big : Bool) (at c : ℕ) (typs counts starts l
   pub ready : Ready f big at c typs counts starts lens
   pub six : rule6 (entriesAt f big at c) ≡ kept
 
--- rules 9 to 12 too
-pub record Fits (f : List ℕ) (big : Bool) (at c : ℕ) (typs counts starts lens : List ℕ) : Type 0 where
+-- rules 27 and 9 to 12 too, and the picture is in tiles or not
+pub record Fits (f : List ℕ) (big : Bool) (at c : ℕ) (t : Bool) (typs counts starts lens : List ℕ) : Type 0 where
   pub passed : Passed f big at c typs counts starts lens
   pub twelve : taggedOf (viewOf f big at c) .verdict .number ≡ 0
+  pub tiled-is : t ≡ tiled (heldAt f big at c)
 
 -- rules 13 and 14
-unfoldable pub stripsJudged : View → Verdict
-stripsJudged v = first (13 ▸ rule13 (v .head .size) (stripsOf v) ∷ 14 ▸ rule14 (fullOf v) (stripsOf v) ∷ [])
+unfoldable pub piecesJudged : View → Verdict
+piecesJudged v = first (13 ▸ rule13 (v .head .size) (piecesOf v) ∷ 14 ▸ rule14 (fullOf v) (piecesOf v) ∷ [])
 
--- rules 9 to 14, with the picture's width and length
+-- rules 27 and 9 to 14, with the picture's width and length
 pub record Placed (f : List ℕ) (big : Bool) (at c : ℕ) (starts lens : List ℕ) (width length : ℕ) : Type 0 where
   pub typs : List ℕ
   pub counts : List ℕ
-  pub fits : Fits f big at c typs counts starts lens
-  pub fourteen : stripsJudged (viewOf f big at c) .number ≡ 0
+  pub tiled : Bool
+  pub fits : Fits f big at c tiled typs counts starts lens
+  pub fourteen : piecesJudged (viewOf f big at c) .number ≡ 0
   pub wide : width ≡ valueOf big Tag.width (heldAt f big at c)
   pub long : length ≡ valueOf big Tag.length (heldAt f big at c)
 
--- of a column of the table, the head and the directory: all but the tags with one SHORT or LONG, whose values stand in their entries
-unfoldable pub outerOf : List ℕ → List ℕ
-outerOf xs =
+-- of a column of the table, the head and the directory: all but the tags with one SHORT or LONG, whose values stand in their entries, and of the
+-- slots that say where pieces lie a and b alone
+unfoldable pub outerOf : List ℕ → ℕ → ℕ → List ℕ
+outerOf xs a b =
     getD xs 2 0
-    ∷ getD xs 5 0
-    ∷ getD xs 8 0
-    ∷ getD xs 10 0
-    ∷ getD xs 11 0
-    ∷ getD xs 12 0
-    ∷ getD xs 13 0
+    ∷ getD xs a 0
+    ∷ getD xs b 0
     ∷ getD xs 14 0
     ∷ getD xs 15 0
     ∷ getD xs 16 0
     ∷ getD xs 17 0
     ∷ getD xs 18 0
+    ∷ getD xs 19 0
+    ∷ getD xs 20 0
+    ∷ getD xs 21 0
+    ∷ getD xs 22 0
     ∷ []

@@ -1,4 +1,4 @@
-// The whole judgement of a file, rules 1 to 22: the layers below, one after the other, each on the part of the file that it may read.
+// The whole judgement of a file, rules 1 to 22 and 27: the layers below, one after the other, each on the part of the file that it may read.
 ghost use mathlib.Core.Path.{_≡_};
 ghost use Prim.Native.Nat.{_<_};
 ghost use lib.ListN.{getD};
@@ -8,7 +8,7 @@ ghost use Rattle.layout.specs.Opening.{openedOf};
 ghost use Rattle.layout.specs.declared.Opened.the-variants.{Laid};
 ghost use Rattle.tags.specs.Tagging.{viewOf};
 ghost use Rattle.judge.specs.Examining.{notExamined, examinedOf, examinedBy};
-ghost use Rattle.judge.specs.Stages.{Passed, Fits, Placed, stripsJudged, outerOf};
+ghost use Rattle.judge.specs.Stages.{Passed, Fits, Placed, piecesJudged, outerOf};
 use paper::Corners;
 use paper::Georeference;
 use paper::Judged;
@@ -63,8 +63,8 @@ fn refused(verdict: Verdict) -> Examined
 }
 
 // The run of slot k of the columns.
-fn run_at(starts: &[usize; 19], lens: &[usize; 19], k: usize) -> Run
-    requires { ⌜ k < 19 ⌝ }
+fn run_at(starts: &[usize; 23], lens: &[usize; 23], k: usize) -> Run
+    requires { ⌜ k < 23 ⌝ }
     ensures { λ r. ⌜ r ≡ record { start = getD (now (starts .entry)) k 0; len = getD (now (lens .entry)) k 0 } ⌝ }
 {
     Run {
@@ -79,24 +79,24 @@ fn judge_runs(
     big: bool,
     at: usize,
     c: usize,
-    starts: &[usize; 19],
-    lens: &[usize; 19],
+    starts: &[usize; 23],
+    lens: &[usize; 23],
     width: u32,
     length: u32,
 ) -> Examined
     requires { ⌜ Placed (now file) big at c (now starts) (now lens) width length ⌝ }
     ensures { λ r. ⌜ r ≡ examinedBy (viewOf (now (file .entry)) big at c) ⌝ }
 {
-    let directory = layout::value(file, starts[13], lens[13]);
-    let doubles = layout::value(file, starts[14], lens[14]);
-    let characters = layout::value(file, starts[15], lens[15]);
+    let directory = layout::value(file, starts[17], lens[17]);
+    let doubles = layout::value(file, starts[18], lens[18]);
+    let characters = layout::value(file, starts[19], lens[19]);
     let k = keys::judge_keys(big, directory, doubles, characters);
     if k.verdict.number != 0 {
         return refused(k.verdict);
     }
-    let scale = layout::value(file, starts[10], lens[10]);
-    let tiepoint = layout::value(file, starts[11], lens[11]);
-    let matrix = layout::value(file, starts[12], lens[12]);
+    let scale = layout::value(file, starts[14], lens[14]);
+    let tiepoint = layout::value(file, starts[15], lens[15]);
+    let matrix = layout::value(file, starts[16], lens[16]);
     let g = ground::judge_ground(big, scale, tiepoint, matrix, width, length, k.point);
     if g.verdict.number != 0 {
         return refused(g.verdict);
@@ -114,58 +114,63 @@ fn judge_runs(
             corners,
         },
         big,
-        directory: run_at(starts, lens, 13),
-        doubles: run_at(starts, lens, 14),
-        characters: run_at(starts, lens, 15),
-        metadata: run_at(starts, lens, 16),
+        directory: run_at(starts, lens, 17),
+        doubles: run_at(starts, lens, 18),
+        characters: run_at(starts, lens, 19),
+        metadata: run_at(starts, lens, 20),
     }
 }
 
-// The part of a column whose ranges may lie outside their entries: the tags with one SHORT or LONG are left out.
-fn outer(column: &[usize; 19]) -> [usize; 12]
-    ensures { λ r. ⌜ r ≡ outerOf (now (column .entry)) ⌝ }
+// The part of a column whose ranges may lie outside their entries, where the pieces have slots a and b: the tags with one SHORT or LONG are left out,
+// and the slots of the family that is absent.
+fn outer(column: &[usize; 23], a: usize, b: usize) -> [usize; 12]
+    requires { ⌜ (a < 23) × (b < 23) ⌝ }
+    ensures { λ r. ⌜ r ≡ outerOf (now (column .entry)) a b ⌝ }
 {
     [
         column[2],
-        column[5],
-        column[8],
-        column[10],
-        column[11],
-        column[12],
-        column[13],
+        column[a],
+        column[b],
         column[14],
         column[15],
         column[16],
         column[17],
         column[18],
+        column[19],
+        column[20],
+        column[21],
+        column[22],
     ]
 }
 
-// Rules 13 and 14, over the runs of the strips' offsets and byte counts.
-fn judge_strips(
+// Rules 13 and 14, over the runs of the pieces' offsets and byte counts.
+fn judge_pieces(
     file: &[u8],
     big: bool,
     at: usize,
     c: usize,
-    typs: &[usize; 17],
-    counts: &[usize; 17],
-    starts: &[usize; 19],
-    lens: &[usize; 19],
+    tiled: bool,
+    typs: &[usize; 21],
+    counts: &[usize; 21],
+    starts: &[usize; 23],
+    lens: &[usize; 23],
 ) -> Verdict
-    requires { ⌜ Fits (now file) big at c (now typs) (now counts) (now starts) (now lens) ⌝ }
-    ensures { λ r. ⌜ r ≡ stripsJudged (viewOf (now (file .entry)) big at c) ⌝ }
+    requires { ⌜ Fits (now file) big at c tiled (now typs) (now counts) (now starts) (now lens) ⌝ }
+    ensures { λ r. ⌜ r ≡ piecesJudged (viewOf (now (file .entry)) big at c) ⌝ }
 {
-    let offsets = layout::value(file, starts[5], lens[5]);
-    let sizes = layout::value(file, starts[8], lens[8]);
-    let outerstarts = outer(starts);
-    let outerlens = outer(lens);
-    strips::judge_places(
+    let a = tags::offsets_slot(tiled);
+    let b = tags::sizes_slot(tiled);
+    let offsets = layout::value(file, starts[a], lens[a]);
+    let sizes = layout::value(file, starts[b], lens[b]);
+    let outerstarts = outer(starts, a, b);
+    let outerlens = outer(lens, a, b);
+    pieces::judge_places(
         offsets,
-        typs[5] == 4,
+        typs[a] == 4,
         sizes,
-        typs[8] == 4,
+        typs[b] == 4,
         big,
-        counts[5],
+        counts[a],
         file.len(),
         &outerstarts,
         &outerlens,
@@ -173,16 +178,16 @@ fn judge_strips(
     )
 }
 
-// Rules 9 to 22, from the columns of the directory.
+// Rules 27 and 9 to 22, from the columns of the directory.
 fn judge_columns(
     file: &[u8],
     big: bool,
     at: usize,
     c: usize,
-    typs: &[usize; 17],
-    counts: &[usize; 17],
-    starts: &[usize; 19],
-    lens: &[usize; 19],
+    typs: &[usize; 21],
+    counts: &[usize; 21],
+    starts: &[usize; 23],
+    lens: &[usize; 23],
 ) -> Examined
     requires { ⌜ Passed (now file) big at c (now typs) (now counts) (now starts) (now lens) ⌝ }
     ensures { λ r. ⌜ r ≡ examinedBy (viewOf (now (file .entry)) big at c) ⌝ }
@@ -191,14 +196,14 @@ fn judge_columns(
     if t.verdict.number != 0 {
         return refused(t.verdict);
     }
-    let s = judge_strips(file, big, at, c, typs, counts, starts, lens);
+    let s = judge_pieces(file, big, at, c, t.tiled, typs, counts, starts, lens);
     if s.number != 0 {
         return refused(s);
     }
     judge_runs(file, big, at, c, starts, lens, t.width, t.length)
 }
 
-// Rules 6 to 22, of a file whose directory of c entries is laid at a place.
+// Rules 6 to 22 and 27, of a file whose directory of c entries is laid at a place.
 fn judge_laid(file: &[u8], big: bool, at: usize, c: usize) -> Examined
     requires { ⌜ openedOf (now file) ≡ Laid big at c ⌝ }
     ensures { λ r. ⌜ r ≡ examinedOf (now (file .entry)) ⌝ }
@@ -206,13 +211,13 @@ fn judge_laid(file: &[u8], big: bool, at: usize, c: usize) -> Examined
     let n = file.len();
     let len = 2 + 12 * c + 4;
     let end = at + len;
-    let mut typs = [0usize; 17];
-    let mut counts = [0usize; 17];
-    let mut starts = [0usize; 19];
-    let mut lens = [0usize; 19];
-    starts[18] = at;
-    lens[17] = 8;
-    lens[18] = len;
+    let mut typs = [0usize; 21];
+    let mut counts = [0usize; 21];
+    let mut starts = [0usize; 23];
+    let mut lens = [0usize; 23];
+    starts[22] = at;
+    lens[21] = 8;
+    lens[22] = len;
     let cells = layout::CELLS;
     let slots = layout::SLOTS;
     let v = layout::scan(

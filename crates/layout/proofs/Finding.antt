@@ -113,7 +113,7 @@ all-stand : all inCell tags ≡ true
 unfolding all inCell cellOf cellTags tags table
 all-stand = refl
 
-pub cell-none : (t : ℕ) → inCell t ≡ false → 17 ≡ indexOf t tags
+pub cell-none : (t : ℕ) → inCell t ≡ false → 21 ≡ indexOf t tags
 unfolding tags table
 cell-none t h = sym (none-passes inCell tags t all-stand h)
 
@@ -135,7 +135,7 @@ passes-at ok (suc n) h c l = go (eqb c n) refl (passes-at ok n (and-eq (ok n) _ 
 right : ℕ → Bool
 right c =
     not (eqb (cellOf (getD cellTags c 0)) c)
-    || (ltb (getD cellSlots c 0) 17 && eqb (getD cellSlots c 0) (indexOf (getD cellTags c 0) tags))
+    || (ltb (getD cellSlots c 0) 21 && eqb (getD cellSlots c 0) (indexOf (getD cellTags c 0) tags))
 
 all-right : passes right 32 ≡ true
 unfolding passes right cellOf cellTags cellSlots indexOf tags table
@@ -145,7 +145,7 @@ cell-low : (t : ℕ) → cellOf t < 32
 unfolding cellOf
 cell-low t = omega arith
 
-pub cell-found : (t : ℕ) → inCell t ≡ true → (getD cellSlots (cellOf t) 0 ≡ indexOf t tags) × (getD cellSlots (cellOf t) 0 < 17)
+pub cell-found : (t : ℕ) → inCell t ≡ true → (getD cellSlots (cellOf t) 0 ≡ indexOf t tags) × (getD cellSlots (cellOf t) 0 < 21)
 unfolding inCell right
 cell-found t h =
     let e : getD cellTags (cellOf t) 0 ≡ t = eqb-true _ _ h in
@@ -157,11 +157,11 @@ cell-found t h =
     after false c k r = absurd (false≢true k)
 
     rest : eqb (cellOf (getD cellTags (cellOf t) 0)) (cellOf t) ≡ true → right (cellOf t) ≡ true
-        → ltb (getD cellSlots (cellOf t) 0) 17 && eqb (getD cellSlots (cellOf t) 0) (indexOf (getD cellTags (cellOf t) 0) tags) ≡ true
+        → ltb (getD cellSlots (cellOf t) 0) 21 && eqb (getD cellSlots (cellOf t) 0) (indexOf (getD cellTags (cellOf t) 0) tags) ≡ true
     rest k r = after _ _ k r
 
-    here : getD cellTags (cellOf t) 0 ≡ t → right (cellOf t) ≡ true → (getD cellSlots (cellOf t) 0 ≡ indexOf t tags) × (getD cellSlots (cellOf t) 0 < 17)
+    here : getD cellTags (cellOf t) 0 ≡ t → right (cellOf t) ≡ true → (getD cellSlots (cellOf t) 0 ≡ indexOf t tags) × (getD cellSlots (cellOf t) 0 < 21)
     here e r =
         let own : cellOf (getD cellTags (cellOf t) 0) ≡ cellOf t = ap cellOf e in
-        let both = and-eq (ltb (getD cellSlots (cellOf t) 0) 17) _ (rest (eq-eqb _ _ own) r) in
+        let both = and-eq (ltb (getD cellSlots (cellOf t) 0) 21) _ (rest (eq-eqb _ _ own) r) in
         (eqb-true _ _ (both .1) ∙ ap (λ (x : ℕ). indexOf x tags) e, ltb-true _ _ (both .0))

@@ -52,7 +52,7 @@ told-seven : (b : Bool) (t seven : ℕ) → t < 65536 → told (cond b t seven) 
 told-seven true t seven h = let n : t ≡ 65536 → ⊥ = λ z. omega arith in told-place t n
 told-seven false t seven h = refl
 
-pub column-length : (field : Entry → ℕ) (es : List Entry) → length (column field es) ≡ 17
+pub column-length : (field : Entry → ℕ) (es : List Entry) → length (column field es) ≡ 21
 unfolding column tags table
 column-length field es = refl
 
@@ -107,14 +107,14 @@ module _ (big : Bool) (at c : ℕ) (dir : List ℕ) where
     turn-column field = rw back (set-index (e .tag) (field e) (λ (t : ℕ). fieldOf field t (rest h)) tags tags-distinct)
 
     -- and in one that has more numbers behind it
-    pub turn-front : (field : Entry → ℕ) (tail : List ℕ) → indexOf (e .tag) tags < 17
+    pub turn-front : (field : Entry → ℕ) (tail : List ℕ) → indexOf (e .tag) tags < 21
         → set (column field (rest h) ++ tail) (indexOf (e .tag) tags) (field e) ≡ column field (rest (h - 1)) ++ tail
     turn-front field tail l =
         set-append-left (column field (rest h)) tail (indexOf (e .tag) tags) (field e) (subst (λ (k : ℕ). indexOf (e .tag) tags < k) (sym (column-length field (rest h))) l)
         ∙ ap (λ (xs : List ℕ). xs ++ tail) (turn-column field)
 
     -- a tag that is not in the table changes no column
-    pub turn-out : (field : Entry → ℕ) → 17 ≤ indexOf (e .tag) tags → column field (rest h) ≡ column field (rest (h - 1))
+    pub turn-out : (field : Entry → ℕ) → 21 ≤ indexOf (e .tag) tags → column field (rest h) ≡ column field (rest (h - 1))
     turn-out field out =
         sym (set-out (column field (rest h)) (indexOf (e .tag) tags) (field e) (subst (λ (k : ℕ). k ≤ indexOf (e .tag) tags) (sym (column-length field (rest h))) out))
         ∙ turn-column field
@@ -129,19 +129,19 @@ module _ (big : Bool) (at c : ℕ) (dir : List ℕ) where
       unfolding countsOf
       counts-in is = ap₂ (λ (l : List ℕ) (j : ℕ). set l j (e .count)) is slot ∙ turn-column (λ (x : Entry). x .count)
 
-      pub starts-in : xs ≡ startsOf at (rest h) → k < 17 → set xs k (e .start) ≡ startsOf at (rest (h - 1))
+      pub starts-in : xs ≡ startsOf at (rest h) → k < 21 → set xs k (e .start) ≡ startsOf at (rest (h - 1))
       unfolding startsOf
       starts-in is l =
           ap₂ (λ (l : List ℕ) (j : ℕ). set l j (e .start)) is slot
-          ∙ turn-front (λ (x : Entry). x .start) (0 ∷ at ∷ []) (subst (λ (j : ℕ). j < 17) slot l)
+          ∙ turn-front (λ (x : Entry). x .start) (0 ∷ at ∷ []) (subst (λ (j : ℕ). j < 21) slot l)
 
-      pub lens-in : xs ≡ lensOf c (rest h) → k < 17 → set xs k (e .len) ≡ lensOf c (rest (h - 1))
+      pub lens-in : xs ≡ lensOf c (rest h) → k < 21 → set xs k (e .len) ≡ lensOf c (rest (h - 1))
       unfolding lensOf
       lens-in is l =
           ap₂ (λ (l : List ℕ) (j : ℕ). set l j (e .len)) is slot
-          ∙ turn-front (λ (x : Entry). x .len) (8 ∷ dirLen c ∷ []) (subst (λ (j : ℕ). j < 17) slot l)
+          ∙ turn-front (λ (x : Entry). x .len) (8 ∷ dirLen c ∷ []) (subst (λ (j : ℕ). j < 21) slot l)
 
-    module _ (out : 17 ≤ indexOf (e .tag) tags) where
+    module _ (out : 21 ≤ indexOf (e .tag) tags) where
       pub typs-out : typsOf (rest h) ≡ typsOf (rest (h - 1))
       unfolding typsOf
       typs-out = turn-out (λ (x : Entry). x .typ) out

@@ -97,6 +97,6 @@ unfolding all some inTable table tags
 tags-in = refl
 
 -- tag k is in the table
-pub tag-in : (k : ℕ) → k < 17 → inTable table (getD tags k 0) ≡ true
+pub tag-in : (k : ℕ) → k < 21 → inTable table (getD tags k 0) ≡ true
 unfolding tags table
 tag-in k h = all-at (inTable table) tags 0 tags-in k h

@@ -22,13 +22,13 @@ cellOf t = t * 687 / 256 % 32
 -- the tag in each cell, and its index in the table; in a cell without a tag of the table stands a tag of another cell
 unfoldable pub cellTags : List ℕ
 cellTags =
-    1 ∷ 34736 ∷ 0 ∷ 34737 ∷ 0 ∷ 0 ∷ 0 ∷ 277 ∷ 0 ∷ 0 ∷ 278 ∷ 50909 ∷ 279 ∷ 0 ∷ 34264 ∷ 256
+    322 ∷ 34736 ∷ 323 ∷ 34737 ∷ 0 ∷ 324 ∷ 0 ∷ 277 ∷ 325 ∷ 0 ∷ 278 ∷ 50909 ∷ 279 ∷ 0 ∷ 34264 ∷ 256
     ∷ 0 ∷ 257 ∷ 33550 ∷ 0 ∷ 258 ∷ 0 ∷ 0 ∷ 259 ∷ 33922 ∷ 0 ∷ 284 ∷ 0 ∷ 273 ∷ 0 ∷ 34735 ∷ 262 ∷ []
 
 unfoldable pub cellSlots : List ℕ
 cellSlots =
-    0 ∷ 14 ∷ 0 ∷ 15 ∷ 0 ∷ 0 ∷ 0 ∷ 6 ∷ 0 ∷ 0 ∷ 7 ∷ 16 ∷ 8 ∷ 0 ∷ 12 ∷ 0
-    ∷ 0 ∷ 1 ∷ 10 ∷ 0 ∷ 2 ∷ 0 ∷ 0 ∷ 3 ∷ 11 ∷ 0 ∷ 9 ∷ 0 ∷ 5 ∷ 0 ∷ 13 ∷ 4 ∷ []
+    10 ∷ 18 ∷ 11 ∷ 19 ∷ 0 ∷ 12 ∷ 0 ∷ 6 ∷ 13 ∷ 0 ∷ 7 ∷ 20 ∷ 8 ∷ 0 ∷ 16 ∷ 0
+    ∷ 0 ∷ 1 ∷ 14 ∷ 0 ∷ 2 ∷ 0 ∷ 0 ∷ 3 ∷ 15 ∷ 0 ∷ 9 ∷ 0 ∷ 5 ∷ 0 ∷ 17 ∷ 4 ∷ []
 
 -- a tag stands in its cell
 unfoldable pub inCell : ℕ → Bool

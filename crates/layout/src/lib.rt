@@ -202,15 +202,15 @@ fn step7(seven: usize, bad: bool, tag: usize) -> usize
 
 // The tags of the table, each in its cell of 32, and a tag of another cell in every cell that is left.
 pub const CELLS: [u16; 32] = [
-    1,
+    322,
     34736,
-    0,
+    323,
     34737,
     0,
-    0,
+    324,
     0,
     277,
-    0,
+    325,
     0,
     278,
     50909,
@@ -238,37 +238,37 @@ pub const CELLS: [u16; 32] = [
 
 // The index of each cell's tag in the table.
 pub const SLOTS: [u8; 32] = [
-    0,
-    14,
-    0,
-    15,
-    0,
-    0,
-    0,
-    6,
-    0,
-    0,
-    7,
-    16,
-    8,
+    10,
+    18,
+    11,
+    19,
     0,
     12,
     0,
+    6,
+    13,
+    0,
+    7,
+    20,
+    8,
+    0,
+    16,
+    0,
     0,
     1,
-    10,
+    14,
     0,
     2,
     0,
     0,
     3,
-    11,
+    15,
     0,
     9,
     0,
     5,
     0,
-    13,
+    17,
     4,
 ];
 
@@ -306,7 +306,7 @@ fn is_listed(cells: &[u16; 32], tag: usize) -> bool
 // The index of a tag of the table.
 fn slot_of(slots: &[u8; 32], tag: usize) -> usize
     requires { ⌜ (now slots ≡ cellSlots) × (tag < 65536) × (inCell tag ≡ true) ⌝ }
-    ensures { λ r. ⌜ (r ≡ indexOf tag tags) × (r < 17) ⌝ }
+    ensures { λ r. ⌜ (r ≡ indexOf tag tags) × (r < 21) ⌝ }
 {
     let cell = cell_of(tag);
     wide_slot(slots[cell])
@@ -351,10 +351,10 @@ pub fn scan(
     at: usize,
     c: usize,
     n: usize,
-    typs: &mut [usize; 17],
-    counts: &mut [usize; 17],
-    starts: &mut [usize; 19],
-    lens: &mut [usize; 19],
+    typs: &mut [usize; 21],
+    counts: &mut [usize; 21],
+    starts: &mut [usize; 23],
+    lens: &mut [usize; 23],
 ) -> Verdict
     requires { ⌜ (dirLen c ≤ length (now dir)) × (0 < c) × (c ≤ 1024) × (at + dirLen c ≤ n) × (n ≤ 4294967295) × (now typs ≡ typsOf []) × (now counts ≡ countsOf []) × (now starts ≡ startsOf at []) × (now lens ≡ lensOf c []) × (now cells ≡ cellTags) × (now slots ≡ cellSlots) ⌝ }
     ensures verdict { λ r. ⌜ r ≡ first (dirRules (record { size = n; big = big; at = at }) c (now (dir .entry)) (entries big at c (now (dir .entry)))) ⌝ }

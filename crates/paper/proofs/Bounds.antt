@@ -12,7 +12,7 @@ use Rattle.paper.specs.Bytes.{run, num, build}
 use Rattle.paper.specs.Outcome.{Outcome, kept, first}
 use Rattle.paper.specs.Layout.{odd, dirLen, sizes, sizeOf, typed, badValue, entryAt, entryOf, startOf, entries, rule1, rule4, rule5, rule7}
 use Rattle.paper.specs.Tests.{all, some}
-use Rattle.paper.specs.Tags.{findEntry, Line, line, has, fitsLine, misfits, rule10, Held, hold, find, absent, listed, inTable, table, bytesOf}
+use Rattle.paper.specs.Tags.{findEntry, Line, line, no, any, has, fitsLine, misfits, rule10, Held, hold, find, absent, listed, inTable, table, bytesOf}
 use Rattle.paper.proofs.Loops.{find-entry}
 use Rattle.paper.proofs.Laws.{all-at, breaks-kept, or-false, and-eq, kept-all, run-length-in, length-build, getD-build}
 use Rattle.paper.specs.declared.Entry.{Entry}
@@ -152,7 +152,7 @@ size-low k h = leb-true _ _ (all-at (λ (x : ℕ). leb x 8) sizes 0 sizes-low k 
 -- ---- rule 10 kept: a present tag of the table is as its line says
 
 abbrev pub noLine : Line
-noLine = line 0 false 0 0 0 0 []
+noLine = line 0 no 0 0 0 0 any
 
 pub fits-line : (tb : List Line) (hs : List Held) → rule10 tb hs ≡ kept → (i : ℕ) → i < length tb → has (getD tb i noLine .tag) hs ≡ true
     → fitsLine (getD tb i noLine) (find (getD tb i noLine .tag) hs .entry) ≡ true

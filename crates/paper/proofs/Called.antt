@@ -1,4 +1,4 @@
--- A call's answer where rules 1 to 22 are kept, and where one is broken; and that the judgement's verdict is that of the rules.
+-- A call's answer where the rules of a file are kept, and where one is broken; and that the judgement's verdict is that of the rules.
 -- Assumes nothing.
 use Prim.Native.Nat.{ℕ}
 use mathlib.Core.Path.{_≡_, refl, sym, ap, _∙_}

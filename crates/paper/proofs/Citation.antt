@@ -57,7 +57,7 @@ found-kept bad place k (e ∷ es) nz h p =
 
 rule17-kept : (f : List ℕ) → verdictOf f .number ≡ 0 → rule17 (runsOf (view f)) (keys (runsOf (view f))) ≡ kept
 unfolding rules headRules countRules dirRules viewRules tagRules keyRules
-rule17-kept f z = all-kept f z 16
+rule17-kept f z = all-kept f z 17
 
 kind-zero : kindOf 0 ≡ 3
 unfolding kindOf kindIn knownKeys

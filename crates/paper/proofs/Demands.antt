@@ -2,28 +2,30 @@
 -- names. `Asked` (in specs/) has the words used here: AllKept, FirstBroken, Agree, SameAnswers, Repainted, SameKeys. Assumes nothing.
 use Prim.Native.Nat.{ℕ, _+_, _<_}
 use mathlib.Core.Path.{_≡_, refl, sym, ap, _∙_}
-use mathlib.Core.Bool.{false}
+use mathlib.Core.Bool.{true, false}
 use mathlib.Core.List.{List, [], _∷_, map}
 use lib.ListN.{length, getD}
 use Rattle.paper.specs.Outcome.{Rule, verdict}
+use Rattle.paper.specs.Tags.{stripTags, tileTags}
 use Rattle.paper.specs.Keys.{keyCount, keyRules}
-use Rattle.paper.specs.Judge.{view, runsOf, stripsOf, verdictOf, rules, readingList}
+use Rattle.paper.specs.Judge.{headIn, entriesIn, view, runsOf, piecesOf, verdictOf, rules, readingList}
 use Rattle.paper.specs.Judge.{headRules, countRules, dirRules, viewRules, tagRules, groundRules}
 use Rattle.paper.specs.Calls.{readRuns}
 use Rattle.paper.specs.Block.{blockOf, blockLeft}
-use Rattle.paper.specs.Asked.{AllKept, FirstBroken, Agree, onList, SameAnswers, noStrip, Within, InStrip, Repainted, Bytes, SameKeys, lentRuns}
+use Rattle.paper.specs.Asked.{AllKept, FirstBroken, Agree, onList, SameAnswers, noPiece, Within, InPiece, Repainted, Bytes, SameKeys, lentRuns}
 use Rattle.paper.proofs.First.{first-kept, first-broken, broken-first, verdict-rules, all-kept}
 use Rattle.paper.proofs.Unseen.{verdict-same, judged-same, rows-same, rowsLeft-same, cited-same, text-same, block-same, blockLeft-same}
 use Rattle.paper.proofs.Citation.{citation-same}
 use Rattle.paper.proofs.Metadata.{metadata-same}
-use Rattle.paper.proofs.Picture.{strips-within, strips-unread, repainted-agree}
+use Rattle.paper.proofs.Picture.{pieces-within, pieces-unread, repainted-agree}
+use Rattle.paper.proofs.Kept.{carries, verdictBefore, verdict-kept}
 use Rattle.paper.proofs.Trip.{read-accepted, read-same}
 use Rattle.paper.specs.declared.Verdict.{Verdict}
 
 module _ (f : List ℕ) where
-  -- The rules are numbered 1 to 22 and stand in that order.
+  -- The rules stand in the order of their numbers, 1 to 22, with 27 directly after 8.
   pub in-order : map (λ (r : Rule). r .number) (rules f)
-      ≡ 1 ∷ 2 ∷ 3 ∷ 4 ∷ 5 ∷ 6 ∷ 7 ∷ 8 ∷ 9 ∷ 10 ∷ 11 ∷ 12 ∷ 13 ∷ 14 ∷ 15 ∷ 16 ∷ 17 ∷ 18 ∷ 19 ∷ 20 ∷ 21 ∷ 22 ∷ []
+      ≡ 1 ∷ 2 ∷ 3 ∷ 4 ∷ 5 ∷ 6 ∷ 7 ∷ 8 ∷ 27 ∷ 9 ∷ 10 ∷ 11 ∷ 12 ∷ 13 ∷ 14 ∷ 15 ∷ 16 ∷ 17 ∷ 18 ∷ 19 ∷ 20 ∷ 21 ∷ 22 ∷ []
   unfolding rules headRules countRules dirRules viewRules tagRules keyRules groundRules
   in-order = refl
 
@@ -68,17 +70,23 @@ unseen f g n h =
     }
 
 module _ (f : List ℕ) (accepts : verdictOf f .number ≡ 0) where
-  -- In an accepted file every strip lies within the file, behind its head,
-  pub strips-inside : (k : ℕ) → k < length (stripsOf (view f)) → Within (length f) (getD (stripsOf (view f)) k noStrip .place)
-  strips-inside = strips-within f accepts
+  -- In an accepted file every strip or tile lies within the file, behind its head,
+  pub pieces-inside : (k : ℕ) → k < length (piecesOf (view f)) → Within (length f) (getD (piecesOf (view f)) k noPiece .place)
+  pieces-inside = pieces-within f accepts
 
-  -- no byte of a strip is on the reading list,
-  pub strips-closed : (k : ℕ) → k < length (stripsOf (view f)) → (i : ℕ) → InStrip f k i → onList i (readingList f) ≡ false
-  strips-closed = strips-unread f accepts
+  -- no byte of one is on the reading list,
+  pub pieces-closed : (k : ℕ) → k < length (piecesOf (view f)) → (i : ℕ) → InPiece f k i → onList i (readingList f) ≡ false
+  pieces-closed = pieces-unread f accepts
 
-  -- and so repainting the strips changes no answer.
+  -- and so repainting the picture changes no answer.
   pub picture : (g : List ℕ) → Repainted f g → SameAnswers f g
   picture g r = unseen f g (r .long) (repainted-agree f g accepts r)
 
--- The marked examples are in `Marked` (`marked`, one table), with the whole reading list of a file of each stage (`allowed`); the 45 kinds and the
--- order of the tables in `Tables` (`kinds`, `known-order`).
+-- STRIPS STAY. A file with some strip tag (273, 278, 279) and no tile tag (322 to 325) gets the verdict and the place of document 01 by itself,
+-- which is written out in `Kept`.
+pub strips-kept : (f : List ℕ) → carries stripTags (entriesIn f (headIn f)) ≡ true → carries tileTags (entriesIn f (headIn f)) ≡ false
+    → verdictOf f ≡ verdictBefore f
+strips-kept f some none = verdict-kept f none some
+
+-- The marked examples are in `Marked` (`marked`, one table), with the whole reading list of a file of each stage (`allowed`); those of tiles are in
+-- `Tiled`, in the same two tables; the 45 kinds and the order of the tables in `Tables` (`kinds`, `known-order`).

@@ -120,7 +120,7 @@ verdict-rules f =
     ∙ ap (λ (v : Verdict). countStage f (headIn f) ▷ v)
     (first-append (dirRules (headIn f) (countIn f (headIn f)) (dirRun f (headIn f)) (entriesIn f (headIn f))) _ refl)))
 
--- no rule of 1 to 22 is broken where the verdict is 0
+-- no rule is broken where the verdict is 0
 pub all-kept : (f : List ℕ) → verdictOf f .number ≡ 0 → AllKept (rules f)
 unfolding rules headRules countRules dirRules viewRules tagRules keyRules groundRules all
 all-kept f z = kept-first (rules f) refl (ap (λ (v : Verdict). v .number) (sym (verdict-rules f)) ∙ z)

@@ -4,6 +4,7 @@ pub mod Demands
 pub mod First
 pub mod Called
 pub mod Unseen
+pub mod Kept
 pub mod Citation
 pub mod Metadata
 pub mod Picture
@@ -13,6 +14,7 @@ pub mod Trip
 -- examples and tables, computed
 pub mod Computed
 pub mod Marked
+pub mod Tiled
 pub mod Tables
 -- laws that the proofs of code cite
 pub mod Laws

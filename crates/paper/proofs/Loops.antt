@@ -13,7 +13,7 @@ use Rattle.paper.specs.Outcome.{Outcome, kept, broken, firstBad, ascendi
 use Rattle.paper.specs.Layout.{entryAt, entryOf, entries, rule6}
 use Rattle.paper.specs.Tests.{all, some, keep}
 use Rattle.paper.specs.Tags.{Line, Held, hold, find, findEntry, absent, listed}
-use Rattle.paper.specs.Strips.{Part, part, valueParts}
+use Rattle.paper.specs.Pieces.{Part, part, valueParts}
 use Rattle.paper.proofs.Laws.{build-step}
 use Rattle.paper.specs.declared.Entry.{Entry}
 

@@ -11,7 +11,7 @@ use lib.Ieee.{Float, fin, binary64}
 use lib.IntN.{pos, negsuc}
 use Rattle.paper.specs.Bytes.{enc, build}
 use Rattle.paper.specs.Outcome.{verdict}
-use Rattle.paper.specs.Strips.{Part, part}
+use Rattle.paper.specs.Pieces.{Part, part}
 use Rattle.paper.specs.Ground.{ofNat}
 use Rattle.paper.specs.Judge.{verdictOf, readingList}
 use Rattle.paper.specs.Calls.{noCorners, judgedOf, rowsOf, rowsLeft, citedOf}
@@ -26,36 +26,45 @@ use Rattle.paper.specs.declared.Row.{Row}
 
 -- ---- file A
 
-shorts : List ℕ → List ℕ
+unfoldable pub shorts : List ℕ → List ℕ
 unfolding encs joined enc
 shorts ns = encs 2 ns
 
-longs : List ℕ → List ℕ
+unfoldable pub longs : List ℕ → List ℕ
 unfolding encs joined enc
 longs ns = encs 4 ns
 
-doubles : List ℕ → List ℕ
+unfoldable pub doubles : List ℕ → List ℕ
 unfolding encs joined enc
 doubles ns = encs 8 ns
 
 -- tag, type, count, value or offset
-entry : ℕ → ℕ → ℕ → ℕ → List ℕ
+unfoldable pub entry : ℕ → ℕ → ℕ → ℕ → List ℕ
 unfolding shorts longs
 entry tag type count value = shorts (tag ∷ type ∷ []) ++ longs (count ∷ value ∷ [])
 
 -- an offset of the directory at 8, and the scale and tiepoint of A
-head : List ℕ
+unfoldable pub head : List ℕ
 unfolding shorts longs
 head = 0x49 ∷ 0x49 ∷ shorts (42 ∷ []) ++ longs (8 ∷ [])
 
-ground : List ℕ
+unfoldable pub ground : List ℕ
 unfolding doubles
 ground =
     doubles (0x3FE0000000000000 ∷ 0x3FE0000000000000 ∷ 0 ∷ [])
     ++ doubles (0 ∷ 0 ∷ 0 ∷ 0x411E848000000000 ∷ 0x414E848000000000 ∷ 0 ∷ [])
 
-pub fileA : List ℕ
-unfolding shorts longs entry head ground
+-- and its key directory
+unfoldable pub keys : List ℕ
+unfolding shorts
+keys =
+    shorts (1 ∷ 1 ∷ 0 ∷ 3 ∷ [])
+    ++ shorts (1024 ∷ 0 ∷ 1 ∷ 1 ∷ [])
+    ++ shorts (1025 ∷ 0 ∷ 1 ∷ 1 ∷ [])
+    ++ shorts (3072 ∷ 0 ∷ 1 ∷ 32633 ∷ [])
+
+unfoldable pub fileA : List ℕ
+unfolding shorts longs entry head ground keys
 fileA =
     head
     ++ shorts (12 ∷ [])
@@ -73,10 +82,7 @@ fileA =
     ++ entry 34735 3 16 230
     ++ longs (0 ∷ [])
     ++ ground
-    ++ shorts (1 ∷ 1 ∷ 0 ∷ 3 ∷ [])
-    ++ shorts (1024 ∷ 0 ∷ 1 ∷ 1 ∷ [])
-    ++ shorts (1025 ∷ 0 ∷ 1 ∷ 1 ∷ [])
-    ++ shorts (3072 ∷ 0 ∷ 1 ∷ 32633 ∷ [])
+    ++ keys
     ++ replicate 8 0
 
 pub length-A : length fileA ≡ 270
@@ -100,20 +106,20 @@ pub record Example : Type 0 where
   pub lent : ℕ
   pub gives : Answers
 
-answers : Verdict → ℕ → Corners → Answers
+unfoldable pub answers : Verdict → ℕ → Corners → Answers
 answers v k c = record { counted = record { verdict = v; keys = k }; corners = c }
 
 -- k halves, as a double
-half : ℕ → Float
+unfoldable pub half : ℕ → Float
 unfolding Ieee.mul Ieee.ofInt Ieee.round
 half k = Ieee.mul binary64 (ofNat k) (fin false 1 (negsuc 0))
 
-halves : ℕ → ℕ → ℕ → ℕ → Corners
+unfoldable pub halves : ℕ → ℕ → ℕ → ℕ → Corners
 unfolding half
 halves a b c d = record { x0 = half a; y0 = half b; x1 = half c; y1 = half d }
 
 -- (500000, 4000000) and (500002, 3999999)
-area : Corners
+unfoldable pub area : Corners
 unfolding halves
 area = halves 1000000 8000000 1000004 7999998
 
@@ -122,11 +128,11 @@ point : Corners
 unfolding halves
 point = halves 1000000 8000000 1000003 7999999
 
-accepted : List ℕ → ℕ → Corners → Example
+unfoldable pub accepted : List ℕ → ℕ → Corners → Example
 unfolding answers
 accepted f k c = record { file = f; lent = 256; gives = answers (verdict 0 0) k c }
 
-refused : List ℕ → ℕ → ℕ → Example
+unfoldable pub refused : List ℕ → ℕ → ℕ → Example
 unfolding answers
 refused f k p = record { file = f; lent = 256; gives = answers (verdict k p) 0 noCorners }
 
@@ -162,8 +168,12 @@ examples =
     ∷ record { file = fileA; lent = 2; gives = answers (verdict 23 3) 0 area }
     ∷ []
 
-pub marked : map (λ x. record { counted = rowsOf (x .file) (x .lent); corners = judgedOf (x .file) .corners }) examples ≡ map (λ x. x .gives) examples
-unfolding examples computed
+-- what the definitions answer
+unfoldable pub answered : Example → Answers
+answered x = record { counted = rowsOf (x .file) (x .lent); corners = judgedOf (x .file) .corners }
+
+pub marked : map answered examples ≡ map (λ x. x .gives) examples
+unfolding examples answered computed
 marked = refl
 
 -- the rows of A, with four lent: the last keeps its content
@@ -185,7 +195,7 @@ pub record Reading : Type 0 where
   pub file : List ℕ
   pub gives : Allowed
 
-reading : List ℕ → ℕ → List Part → Reading
+unfoldable pub reading : List ℕ → ℕ → List Part → Reading
 reading f k ps = record { file = f; gives = record { number = k; list = ps } }
 
 -- the first 8 bytes; the count's two; the directory's 150
@@ -234,8 +244,12 @@ readings =
     ∷ reading (changed 158 (enc 8 0)) 21 whole
     ∷ []
 
-pub allowed : map (λ x. record { number = verdictOf (x .file) .number; list = readingList (x .file) }) readings ≡ map (λ x. x .gives) readings
-unfolding readings computed
+-- what the definitions allow
+unfoldable pub allowedOf : Reading → Allowed
+allowedOf x = record { number = verdictOf (x .file) .number; list = readingList (x .file) }
+
+pub allowed : map allowedOf readings ≡ map (λ x. x .gives) readings
+unfolding readings allowedOf computed
 allowed = refl
 
 -- of A it is bytes 0 to 261
@@ -253,8 +267,8 @@ tempting =
     ∷ refused (changed 166 (enc 8 0xBFE0000000000000)) 21 33550
     ∷ []
 
-pub tempted : map (λ x. record { counted = rowsOf (x .file) (x .lent); corners = judgedOf (x .file) .corners }) tempting ≡ map (λ x. x .gives) tempting
-unfolding tempting computed
+pub tempted : map answered tempting ≡ map (λ x. x .gives) tempting
+unfolding tempting answered computed
 tempted = refl
 
 -- A with two doubles, of which a key has the second, and with the characters ab|, which stand in their entry

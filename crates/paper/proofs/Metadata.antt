@@ -31,13 +31,13 @@ told outside w = cond (has 50909 (w .held)) (bytesOf 50909 (w .held)) outside
 
 rule10-kept : (f : List ℕ) → verdictOf f .number ≡ 0 → rule10 table (view f .held) ≡ kept
 unfolding rules headRules countRules dirRules viewRules tagRules keyRules view viewAt
-rule10-kept f z = all-kept f z 9
+rule10-kept f z = all-kept f z 10
 
 -- where it is present, its type is BYTE, so its value is on the reading list
 meta-listed : (hs : List Held) → rule10 table hs ≡ kept → has 50909 hs ≡ true → listed table (find 50909 hs .entry) ≡ true
 unfolding table has fitsLine listed inTable some sizeOf
 meta-listed hs h p =
-    let fit : fitsLine (getD table 16 noLine) (find 50909 hs .entry) ≡ true = fits-line table hs h 16 (lit< tt) p in
+    let fit : fitsLine (getD table 20 noLine) (find 50909 hs .entry) ≡ true = fits-line table hs h 20 (lit< tt) p in
     let tag : find 50909 hs .entry .tag ≡ 50909 = eqb-true _ _ p in
     let typ : find 50909 hs .entry .typ ≡ 1 = eqb-true _ _ (or-same _ (and-eq (eqb (find 50909 hs .entry .typ) 1 || eqb (find 50909 hs .entry .typ) 1) _ fit .0)) in
     rw (tag, typ)

@@ -1,4 +1,4 @@
--- The strips of an accepted file lie within it, and none of their bytes is on the reading list: so a file that differs from it in strip bytes
+-- The pieces of an accepted file lie within it, and none of their bytes is on the reading list: so a file that differs from it in the picture
 -- alone agrees with it on the list. Assumes nothing.
 use Prim.Native.Nat.{ℕ, zero, suc, _+_, _-_, _*_, _≤_, _<_, min, max, zero-le, suc-le-suc}
 use mathlib.Core.Path.{_≡_, refl, sym, ap, ap₂, _∙_, subst}
@@ -12,13 +12,13 @@ use Rattle.paper.specs.Bytes.{run, num}
 use Rattle.paper.specs.Outcome.{Outcome, kept, broken, first, firstBad, verdict}
 use Rattle.paper.specs.Layout.{dirLen}
 use Rattle.paper.specs.Tests.{some}
-use Rattle.paper.specs.Strips.{Part, part, Strip, shares, fullList, valueParts, badStrip, rule13, rule14, touches}
-use Rattle.paper.specs.Judge.{view, verdictOf, rules, readingList, past, viewAt, countParts, dirParts, heldParts, headIn, headOf, countIn, stripsOf, fullOf}
+use Rattle.paper.specs.Pieces.{Part, part, Piece, shares, fullList, valueParts, badPiece, rule13, rule14, touches}
+use Rattle.paper.specs.Judge.{view, verdictOf, rules, readingList, past, viewAt, countParts, dirParts, heldParts, headIn, headOf, countIn, piecesOf, fullOf}
 use Rattle.paper.specs.Judge.{headRules, countRules, dirRules, viewRules, tagRules}
 use Rattle.paper.specs.Keys.{keyRules}
 use Rattle.paper.proofs.Laws.{kept-all, T-true, or-false, or-both}
 use Rattle.paper.proofs.First.{all-kept, past-zero}
-use Rattle.paper.specs.Asked.{inPart, onList, Agree, noStrip, Within, InStrip, Repainted}
+use Rattle.paper.specs.Asked.{inPart, onList, Agree, noPiece, Within, InPiece, Repainted}
 use Rattle.paper.proofs.Unseen.{in-part}
 
 and-true : (a b : Bool) → T (a && b) → T a × T b
@@ -64,15 +64,15 @@ listed-full f z i h =
         cc
     go false e = e
 
--- ---- where the strips of an accepted file lie
+-- ---- where the pieces of an accepted file lie
 
-rule13-kept : (f : List ℕ) → verdictOf f .number ≡ 0 → rule13 (length f) (stripsOf (view f)) ≡ kept
+rule13-kept : (f : List ℕ) → verdictOf f .number ≡ 0 → rule13 (length f) (piecesOf (view f)) ≡ kept
 unfolding rules headRules countRules dirRules viewRules tagRules keyRules headIn headOf view viewAt
-rule13-kept f z = all-kept f z 12
+rule13-kept f z = all-kept f z 13
 
-pub strip-within : (n : ℕ) (s : Strip) → badStrip n s ≡ false → Within n (s .place)
-unfolding badStrip
-strip-within n s h =
+pub piece-within : (n : ℕ) (s : Piece) → badPiece n s ≡ false → Within n (s .place)
+unfolding badPiece
+piece-within n s h =
     let a = or-false (eqb (s .place .len) 0) _ h in
     let b = or-false (ltb (s .place .start) 8) _ (a .1) in
     record { some = positive (s .place .len) (eqb-false _ _ (a .0)); low = ltb-false _ _ (b .0); high = ltb-false _ _ (b .1) }
@@ -81,28 +81,28 @@ strip-within n s h =
     positive zero z = absurd (z refl)
     positive (suc k) z = suc-le-suc zero-le
 
-pub strips-within : (f : List ℕ) → verdictOf f .number ≡ 0 → (k : ℕ) → k < length (stripsOf (view f))
-    → Within (length f) (getD (stripsOf (view f)) k noStrip .place)
+pub pieces-within : (f : List ℕ) → verdictOf f .number ≡ 0 → (k : ℕ) → k < length (piecesOf (view f))
+    → Within (length f) (getD (piecesOf (view f)) k noPiece .place)
 unfolding rule13
-strips-within f z k l =
-    strip-within (length f) (getD (stripsOf (view f)) k noStrip) (kept-all _ _ (stripsOf (view f)) noStrip (rule13-kept f z) k l)
+pieces-within f z k l =
+    piece-within (length f) (getD (piecesOf (view f)) k noPiece) (kept-all _ _ (piecesOf (view f)) noPiece (rule13-kept f z) k l)
 
 -- ---- and that none of their bytes is on the reading list
 
-rule14-kept : (f : List ℕ) → verdictOf f .number ≡ 0 → rule14 (fullOf (view f)) (stripsOf (view f)) ≡ kept
+rule14-kept : (f : List ℕ) → verdictOf f .number ≡ 0 → rule14 (fullOf (view f)) (piecesOf (view f)) ≡ kept
 unfolding rules headRules countRules dirRules viewRules tagRules keyRules
-rule14-kept f z = all-kept f z 13
+rule14-kept f z = all-kept f z 14
 
-pub strips-unread : (f : List ℕ) → verdictOf f .number ≡ 0 → (k : ℕ) → k < length (stripsOf (view f)) → (i : ℕ) → InStrip f k i
+pub pieces-unread : (f : List ℕ) → verdictOf f .number ≡ 0 → (k : ℕ) → k < length (piecesOf (view f)) → (i : ℕ) → InPiece f k i
     → onList i (readingList f) ≡ false
 unfolding rule14 touches
-strips-unread f z k l i t =
+pieces-unread f z k l i t =
     listed-full f z i
-    (unshared i (getD (stripsOf (view f)) k noStrip .place) (fullOf (view f)) (kept-all _ _ (stripsOf (view f)) noStrip (rule14-kept f z) k l) t)
+    (unshared i (getD (piecesOf (view f)) k noPiece .place) (fullOf (view f)) (kept-all _ _ (piecesOf (view f)) noPiece (rule14-kept f z) k l) t)
 
 -- a repainted file agrees with it on the reading list
 pub repainted-agree : (f g : List ℕ) → verdictOf f .number ≡ 0 → Repainted f g → Agree f g (readingList f)
 repainted-agree f g z r i t = r .elsewhere i none
   where
-    none : (k : ℕ) → k < length (stripsOf (view f)) → InStrip f k i → ⊥
-    none k l s = subst T (strips-unread f z k l i s) t
+    none : (k : ℕ) → k < length (piecesOf (view f)) → InPiece f k i → ⊥
+    none k l s = subst T (pieces-unread f z k l i s) t

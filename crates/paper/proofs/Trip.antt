@@ -60,11 +60,11 @@ writable f b z k =
       bytes35 = bytes-of f 34735 b;
       bytes36 = bytes-of f 34736 b;
       bytes37 = bytes-of f 34737 b;
-      kept15 = all-kept f z 14;
-      kept16 = all-kept f z 15;
-      kept17 = all-kept f z 16;
-      kept18 = all-kept f z 17;
-      kept19 = all-kept f z 18;
+      kept15 = all-kept f z 15;
+      kept16 = all-kept f z 16;
+      kept17 = all-kept f z 17;
+      kept18 = all-kept f z 18;
+      kept19 = all-kept f z 19;
       kept24 = k;
     }
 

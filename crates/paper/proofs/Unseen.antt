@@ -13,7 +13,7 @@ use Rattle.paper.specs.Outcome.{Outcome, first, verdict, _▷_}
 use Rattle.paper.specs.Layout.{dirLen, entries}
 use Rattle.paper.specs.Tests.{all, some, keep}
 use Rattle.paper.specs.Tags.{Line, table, Held, hold, listed}
-use Rattle.paper.specs.Strips.{Part, part, valueParts, fullList}
+use Rattle.paper.specs.Pieces.{Part, part, valueParts, fullList}
 use Rattle.paper.specs.Judge.{Head, View, headOf, headRun, headIn, countRun, countIn, dirRun, entriesIn, viewAt, view, verdictOf, readingList, past, from, countParts, dirParts, heldParts}
 use Rattle.paper.specs.Keys.{keyRules}
 use Rattle.paper.specs.Judge.{headStage, countStage, dirStage, viewStage, headRules, countRules, dirRules, viewRules, tagRules, groundRules}

@@ -10,9 +10,9 @@ use Rattle.paper.specs.Bytes.{run}
 use Rattle.paper.specs.Outcome.{kept, broken, Rule, _▸_}
 use Rattle.paper.specs.Tests.{some}
 use Rattle.paper.specs.Tag
-use Rattle.paper.specs.Strips.{Part, part, Strip}
+use Rattle.paper.specs.Pieces.{Part, part, Piece}
 use Rattle.paper.specs.Keys.{Runs, keyCount, keyAt}
-use Rattle.paper.specs.Judge.{view, stripsOf, verdictOf}
+use Rattle.paper.specs.Judge.{view, piecesOf, verdictOf}
 use Rattle.paper.specs.Calls.{judgedOf, rowsOf, rowsLeft, citedOf, citation, textOf, metadata, backOf}
 use Rattle.paper.specs.Block.{elements, blockOf, blockLeft}
 use Rattle.paper.specs.declared.Block.{Block}
@@ -88,8 +88,8 @@ pub record SameAnswers (f g : List ℕ) : Type 0 where
   pub lengths : (m : ℕ) → blockOf f m ≡ blockOf g m
   pub blocks : (out : List ℕ) → blockLeft f out ≡ blockLeft g out
 
-abbrev pub noStrip : Strip
-noStrip = record { index = 0; place = part 0 0 }
+abbrev pub noPiece : Piece
+noPiece = record { index = 0; place = part 0 0 }
 
 -- a part that has bytes, starts at byte 8 or later, and ends within a file of n bytes
 pub record Within (n : ℕ) (p : Part) : Type 0 where
@@ -97,11 +97,11 @@ pub record Within (n : ℕ) (p : Part) : Type 0 where
   pub low : 8 ≤ p .start
   pub high : p .start + p .len ≤ n
 
--- byte i of the file is in strip k
-abbrev pub InStrip : List ℕ → ℕ → ℕ → Type 0
-InStrip f k i = T (inPart i (getD (stripsOf (view f)) k noStrip .place))
+-- byte i of the file is in piece k
+abbrev pub InPiece : List ℕ → ℕ → ℕ → Type 0
+InPiece f k i = T (inPart i (getD (piecesOf (view f)) k noPiece .place))
 
--- g is f with other bytes in its strips, and nowhere else
+-- g is f with other bytes in its strips or tiles, and nowhere else
 pub record Repainted (f g : List ℕ) : Type 0 where
   pub long : length f ≡ length g
-  pub elsewhere : (i : ℕ) → ((k : ℕ) → k < length (stripsOf (view f)) → InStrip f k i → ⊥) → getD f i 0 ≡ getD g i 0
+  pub elsewhere : (i : ℕ) → ((k : ℕ) → k < length (piecesOf (view f)) → InPiece f k i → ⊥) → getD f i 0 ≡ getD g i 0

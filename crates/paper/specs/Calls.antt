@@ -25,7 +25,7 @@ use Rattle.paper.specs.declared.Text.{Text}
 abbrev pub accepts : Verdict → Bool
 accepts v = eqb (v .number) 0
 
--- Every call on a file has this shape: what the view gives where rules 1 to 22 are kept, and else what the verdict alone gives.
+-- Every call on a file has this shape: what the view gives where the rules of the file are kept, and else what the verdict alone gives.
 unfoldable pub answer : {A : Type 0} → List ℕ → (View → A) → (Verdict → A) → A
 answer f good bad = cond (accepts (verdictOf f)) (good (view f)) (bad (verdictOf f))
 

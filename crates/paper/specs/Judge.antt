@@ -1,16 +1,16 @@
--- The judgement: rules 1 to 22 over a file, which is looked at only through runs, stage by stage, and the reading list.
+-- The judgement: rules 1 to 22 and 27 over a file, which is looked at only through runs, stage by stage, and the reading list.
 -- Assumes nothing.
-use Prim.Native.Nat.{ℕ, _+_, _*_, min}
-use mathlib.Core.Bool.{Bool, true, false, cond, not, _&&_, _||_}
+use Prim.Native.Nat.{ℕ, _+_, min}
+use mathlib.Core.Bool.{Bool, cond, not, _||_}
 use mathlib.Core.List.{List, [], _∷_, _++_, map}
-use lib.Dec.{ltb, leb, eqb}
+use lib.Dec.{leb, eqb}
 use lib.ListN.{length}
 use Rattle.paper.specs.Bytes.{run, num}
 use Rattle.paper.specs.Outcome.{Rule, _▸_, first, _▷_}
 use Rattle.paper.specs.Layout.{isBig, dirAt, dirLen, entries, rule1, rule2, rule3, rule4, rule5, rule6, rule7, rule8}
 use Rattle.paper.specs.Tag
-use Rattle.paper.specs.Tags.{Line, table, Held, hold, bytesOf, valueOf, rule9, rule10, rule11, rule12}
-use Rattle.paper.specs.Strips.{strips, Strip, Part, part, fullList, valueParts, rule13, rule14}
+use Rattle.paper.specs.Tags.{Line, table, Held, hold, bytesOf, valueOf, rule27, rule9, rule10, rule11, rule12}
+use Rattle.paper.specs.Pieces.{pieces, Piece, Part, part, fullList, valueParts, rule13, rule14}
 use Rattle.paper.specs.Key
 use Rattle.paper.specs.Keys.{Runs, keys, keyValue, keyRules}
 use Rattle.paper.specs.Ground.{Survey, corners, rule20, rule21, rule22}
@@ -52,8 +52,8 @@ surveyOf v =
       point = eqb (keyValue Key.rasterType (keys (runsOf v))) 2;
     }
 
-unfoldable pub stripsOf : View → List Strip
-stripsOf v = strips (v .head .big) (v .held)
+unfoldable pub piecesOf : View → List Piece
+piecesOf v = pieces (v .head .big) (v .held)
 
 unfoldable pub fullOf : View → List Part
 fullOf v = fullList (v .table) (v .head .at) (v .count) (v .held)
@@ -71,18 +71,19 @@ dirRules h c dir es = 6 ▸ rule6 es ∷ 7 ▸ rule7 (h .size) es ∷ 8 ▸ rule
 
 unfoldable pub tagRules : View → List Rule
 tagRules v =
-    9 ▸ rule9 (v .table) (v .held)
+    27 ▸ rule27 (v .held)
+    ∷ 9 ▸ rule9 (v .table) (v .held)
     ∷ 10 ▸ rule10 (v .table) (v .held)
     ∷ 11 ▸ rule11 (v .table) (v .head .big) (v .held)
     ∷ 12 ▸ rule12 (v .head .big) (v .held)
-    ∷ 13 ▸ rule13 (v .head .size) (stripsOf v)
-    ∷ 14 ▸ rule14 (fullOf v) (stripsOf v)
+    ∷ 13 ▸ rule13 (v .head .size) (piecesOf v)
+    ∷ 14 ▸ rule14 (fullOf v) (piecesOf v)
     ∷ []
 
 unfoldable pub groundRules : Survey → List Rule
 groundRules s = 20 ▸ rule20 s ∷ 21 ▸ rule21 s ∷ 22 ▸ rule22 (corners s) ∷ []
 
--- rules 9 to 22
+-- rules 27 and 9 to 22
 unfoldable pub viewRules : View → List Rule
 viewRules v = tagRules v ++ (keyRules (runsOf v) ++ groundRules (surveyOf v))
 
@@ -128,11 +129,11 @@ view f = viewAt table f (headIn f)
 unfoldable pub headStage : List ℕ → Verdict
 headStage f = first (headRules (length f) (headRun f))
 
--- the verdict of rules 1 to 22: a stage is opened only where the one before is kept
+-- the verdict of all rules: a stage is opened only where the one before is kept
 unfoldable pub verdictOf : List ℕ → Verdict
 verdictOf f = headStage f ▷ (countStage f (headIn f) ▷ (dirStage f (headIn f) ▷ viewStage (view f)))
 
--- rules 1 to 22, in order
+-- the rules, in order: 27 stands after 8
 unfoldable pub rules : List ℕ → List Rule
 rules f =
     headRules (length f) (headRun f)

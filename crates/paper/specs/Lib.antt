@@ -5,7 +5,7 @@ pub mod Tag
 pub mod Key
 pub mod Layout
 pub mod Tags
-pub mod Strips
+pub mod Pieces
 pub mod Keys
 pub mod Ground
 pub mod Judge

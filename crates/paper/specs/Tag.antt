@@ -1,4 +1,4 @@
--- The tags of document 01's table, each number once, under the document's words. The table itself is in `Tags`. Assumes nothing.
+-- The tags of the table, each number once, under the documents' words. The table itself is in `Tags`. Assumes nothing.
 use Prim.Native.Nat.{ℕ}
 
 abbrev pub width : ℕ
@@ -30,6 +30,18 @@ stripByteCounts = 279
 
 abbrev pub planar : ℕ
 planar = 284
+
+abbrev pub tileWidth : ℕ
+tileWidth = 322
+
+abbrev pub tileLength : ℕ
+tileLength = 323
+
+abbrev pub tileOffsets : ℕ
+tileOffsets = 324
+
+abbrev pub tileByteCounts : ℕ
+tileByteCounts = 325
 
 abbrev pub scale : ℕ
 scale = 33550

@@ -1,37 +1,45 @@
--- Document 01, the table of tags, and rules 9 to 12. From here on a rule sees the value bytes of the table's tags, which are runs of the
--- file. `tb` is a table and `hs` are the entries of a directory, so that another kind of directory may have a table of its own.
--- Assumes nothing.
-use Prim.Native.Nat.{ℕ, _+_, _-_, _*_, _/_}
+-- Document 01, the table of tags, with request C-11's tags of tiles, and rules 27 and 9 to 12. From here on a rule sees the value bytes of the table's
+-- tags, which are runs of the file. `tb` is a table and `hs` are the entries of a directory, so that another kind of directory may have a table of its
+-- own. Assumes nothing.
+use Prim.Native.Nat.{ℕ, _+_, _-_, _*_, _/_, _%_}
 use mathlib.Core.Bool.{Bool, true, false, cond, not, _&&_, _||_}
 use mathlib.Core.List.{List, [], _∷_}
 use lib.Dec.{ltb, leb, eqb}
 use Rattle.paper.specs.Bytes.{run, num, elems}
 use Rattle.paper.specs.Outcome.{Outcome, breaks, firstOf, firstBad}
-use Rattle.paper.specs.Tests.{all, some, Range, between, just, free, allows}
+use Rattle.paper.specs.Tests.{all, some, between, just, allows}
 use Rattle.paper.specs.Layout.{sizeOf, typed}
 use Rattle.paper.specs.Tag
 use Rattle.paper.specs.declared.Entry.{Entry}
 
 -- ---- the table
 
--- a tag, whether it is needed, the one or two types it may have, the least and the most of its count, and the values allowed
+-- a tag, whether it is needed in a picture of strips (false) and in one of tiles (true), the one or two types it may have, the least and the most
+-- of its count, and which values are allowed
 pub record Line : Type 0 where
   pub tag : ℕ
-  pub needed : Bool
+  pub needed : Bool → Bool
   pub type : ℕ
   pub other : ℕ
   pub least : ℕ
   pub most : ℕ
-  pub values : List Range
+  pub values : ℕ → Bool
 
-abbrev pub line : ℕ → Bool → ℕ → ℕ → ℕ → ℕ → List Range → Line
+abbrev pub line : ℕ → (Bool → Bool) → ℕ → ℕ → ℕ → ℕ → (ℕ → Bool) → Line
 line t n a b l m v = record { tag = t; needed = n; type = a; other = b; least = l; most = m; values = v }
 
-abbrev pub yes : Bool
-yes = true
+-- needed: always, never, in a picture of strips, in one of tiles
+abbrev pub yes : Bool → Bool
+yes tiled = true
 
-abbrev pub no : Bool
-no = false
+abbrev pub no : Bool → Bool
+no tiled = false
+
+abbrev pub inStrips : Bool → Bool
+inStrips tiled = not tiled
+
+abbrev pub inTiles : Bool → Bool
+inTiles tiled = tiled
 
 abbrev pub BYTE : ℕ
 BYTE = 1
@@ -52,26 +60,37 @@ DOUBLE = 12
 abbrev pub more : ℕ
 more = 4294967295
 
--- values 'see 13', 'see 15', 'see 21' and 'any' are free here: the rules named test them
+-- values 'see 13', 'see 15', 'see 21' and 'any': the rules named test them
+abbrev pub any : ℕ → Bool
+any v = true
+
+-- positive multiples of 16
+unfoldable pub sixteens : ℕ → Bool
+sixteens v = ltb 0 v && eqb (v % 16) 0
+
 unfoldable pub table : List Line
 table =
-    line Tag.width yes SHORT LONG 1 1 (between 1 1000000 ∷ [])
-    ∷ line Tag.length yes SHORT LONG 1 1 (between 1 1000000 ∷ [])
-    ∷ line Tag.bits yes SHORT SHORT 1 more (just 1 ∷ just 8 ∷ just 16 ∷ just 32 ∷ [])
-    ∷ line Tag.compression yes SHORT SHORT 1 1 (just 1 ∷ just 2 ∷ just 32773 ∷ [])
-    ∷ line Tag.photometric yes SHORT SHORT 1 1 (between 0 3 ∷ [])
-    ∷ line Tag.stripOffsets yes SHORT LONG 1 more free
-    ∷ line Tag.samples yes SHORT SHORT 1 1 (between 1 8 ∷ [])
-    ∷ line Tag.rowsPerStrip yes SHORT LONG 1 1 (between 1 more ∷ [])
-    ∷ line Tag.stripByteCounts yes SHORT LONG 1 more free
-    ∷ line Tag.planar no SHORT SHORT 1 1 (just 1 ∷ [])
-    ∷ line Tag.scale no DOUBLE DOUBLE 3 3 free
-    ∷ line Tag.tiepoint no DOUBLE DOUBLE 6 6 free
-    ∷ line Tag.matrix no DOUBLE DOUBLE 16 16 free
-    ∷ line Tag.keyDirectory yes SHORT SHORT 4 more free
-    ∷ line Tag.doubles no DOUBLE DOUBLE 1 more free
-    ∷ line Tag.characters no ASCII ASCII 1 more free
-    ∷ line Tag.metadata no BYTE BYTE 1 more free
+    line Tag.width yes SHORT LONG 1 1 (allows (between 1 1000000 ∷ []))
+    ∷ line Tag.length yes SHORT LONG 1 1 (allows (between 1 1000000 ∷ []))
+    ∷ line Tag.bits yes SHORT SHORT 1 more (allows (just 1 ∷ just 8 ∷ just 16 ∷ just 32 ∷ []))
+    ∷ line Tag.compression yes SHORT SHORT 1 1 (allows (just 1 ∷ just 2 ∷ just 32773 ∷ []))
+    ∷ line Tag.photometric yes SHORT SHORT 1 1 (allows (between 0 3 ∷ []))
+    ∷ line Tag.stripOffsets inStrips SHORT LONG 1 more any
+    ∷ line Tag.samples yes SHORT SHORT 1 1 (allows (between 1 8 ∷ []))
+    ∷ line Tag.rowsPerStrip inStrips SHORT LONG 1 1 (allows (between 1 more ∷ []))
+    ∷ line Tag.stripByteCounts inStrips SHORT LONG 1 more any
+    ∷ line Tag.planar no SHORT SHORT 1 1 (allows (just 1 ∷ []))
+    ∷ line Tag.tileWidth inTiles SHORT LONG 1 1 sixteens
+    ∷ line Tag.tileLength inTiles SHORT LONG 1 1 sixteens
+    ∷ line Tag.tileOffsets inTiles LONG LONG 1 more any
+    ∷ line Tag.tileByteCounts inTiles SHORT LONG 1 more any
+    ∷ line Tag.scale no DOUBLE DOUBLE 3 3 any
+    ∷ line Tag.tiepoint no DOUBLE DOUBLE 6 6 any
+    ∷ line Tag.matrix no DOUBLE DOUBLE 16 16 any
+    ∷ line Tag.keyDirectory yes SHORT SHORT 4 more any
+    ∷ line Tag.doubles no DOUBLE DOUBLE 1 more any
+    ∷ line Tag.characters no ASCII ASCII 1 more any
+    ∷ line Tag.metadata no BYTE BYTE 1 more any
     ∷ []
 
 unfoldable pub inTable : List Line → ℕ → Bool
@@ -121,10 +140,54 @@ valuesOf big t hs = elems big (sizeOf (find t hs .entry .typ)) (countOf t hs) (b
 unfoldable pub valueOf : Bool → ℕ → List Held → ℕ
 valueOf big t hs = num big (sizeOf (find t hs .entry .typ)) (bytesOf t hs) 0
 
+-- ---- strips or tiles
+
+-- the tags of each family
+abbrev pub stripTags : List ℕ
+stripTags = Tag.stripOffsets ∷ Tag.rowsPerStrip ∷ Tag.stripByteCounts ∷ []
+
+abbrev pub tileTags : List ℕ
+tileTags = Tag.tileWidth ∷ Tag.tileLength ∷ Tag.tileOffsets ∷ Tag.tileByteCounts ∷ []
+
+-- some tag of a family is present
+unfoldable pub hasSome : List ℕ → List Held → Bool
+hasSome ts hs = some (λ t. has t hs) ts
+
+-- the picture is in tiles; where rule 27 is kept and it is not, it is in strips
+abbrev pub tiled : List Held → Bool
+tiled hs = hasSome tileTags hs
+
+-- tags of both families, or of neither
+unfoldable pub rule27 : List Held → Outcome
+rule27 hs =
+    let strips : Bool = hasSome stripTags hs in
+    let tiles : Bool = hasSome tileTags hs in
+    breaks ((strips && tiles) || (not strips && not tiles)) 0
+
+-- the tags that say where the pieces of the picture lie
+abbrev pub offsetsTag : List Held → ℕ
+offsetsTag hs = cond (tiled hs) Tag.tileOffsets Tag.stripOffsets
+
+abbrev pub byteCountsTag : List Held → ℕ
+byteCountsTag hs = cond (tiled hs) Tag.tileByteCounts Tag.stripByteCounts
+
+-- a / b, rounded up
+unfoldable pub roundedUp : ℕ → ℕ → ℕ
+roundedUp a b = (a + (b - 1)) / b
+
+-- the number of tiles, those across times those down, or of strips
+unfoldable pub pieceCount : Bool → List Held → ℕ
+pieceCount big hs =
+    let width : ℕ = valueOf big Tag.width hs in
+    let length : ℕ = valueOf big Tag.length hs in
+    cond (tiled hs)
+    (roundedUp width (valueOf big Tag.tileWidth hs) * roundedUp length (valueOf big Tag.tileLength hs))
+    (roundedUp length (valueOf big Tag.rowsPerStrip hs))
+
 -- ---- rules 9 to 12
 
 unfoldable pub lacks : List Held → Line → Bool
-lacks hs l = l .needed && not (has (l .tag) hs)
+lacks hs l = l .needed (tiled hs) && not (has (l .tag) hs)
 
 unfoldable pub rule9 : List Line → List Held → Outcome
 rule9 tb hs = firstBad (lacks hs) (λ l. l .tag) tb
@@ -140,14 +203,10 @@ unfoldable pub rule10 : List Line → List Held → Outcome
 rule10 tb hs = firstBad (misfits hs) (λ l. l .tag) tb
 
 unfoldable pub disallowed : Bool → List Held → Line → Bool
-disallowed big hs l = has (l .tag) hs && not (all (allows (l .values)) (valuesOf big (l .tag) hs))
+disallowed big hs l = has (l .tag) hs && not (all (l .values) (valuesOf big (l .tag) hs))
 
 unfoldable pub rule11 : List Line → Bool → List Held → Outcome
 rule11 tb big hs = firstBad (disallowed big hs) (λ l. l .tag) tb
-
--- length / rows per strip, rounded up
-unfoldable pub stripCount : ℕ → ℕ → ℕ
-stripCount length rows = (length + (rows - 1)) / rows
 
 -- `bits` is the first value of 258; with the first line kept, every value
 unfoldable pub rule12 : Bool → List Held → Outcome
@@ -155,10 +214,9 @@ rule12 big hs =
     let bits : ℕ = valueOf big Tag.bits hs in
     let samples : ℕ = valueOf big Tag.samples hs in
     let coding : ℕ = valueOf big Tag.compression hs in
-    let strips : ℕ = stripCount (valueOf big Tag.length hs) (valueOf big Tag.rowsPerStrip hs) in
     firstOf
     (breaks (not (eqb (countOf Tag.bits hs) samples) || not (all (eqb bits) (valuesOf big Tag.bits hs))) Tag.bits
     ∷ breaks ((eqb coding 2 || eqb coding 32773) && (not (eqb bits 1) || not (eqb samples 1))) Tag.compression
-    ∷ breaks (not (eqb (countOf Tag.stripOffsets hs) strips)) Tag.stripOffsets
-    ∷ breaks (not (eqb (countOf Tag.stripByteCounts hs) strips)) Tag.stripByteCounts
+    ∷ breaks (not (eqb (countOf (offsetsTag hs) hs) (pieceCount big hs))) (offsetsTag hs)
+    ∷ breaks (not (eqb (countOf (byteCountsTag hs) hs) (pieceCount big hs))) (byteCountsTag hs)
     ∷ [])

@@ -21,7 +21,7 @@ unfoldable pub indexOf : ℕ → List ℕ → ℕ
 indexOf x [] = 0
 indexOf x (y ∷ ys) = cond (eqb x y) 0 (suc (indexOf x ys))
 
--- ---- which values are allowed: those in one of some ranges, or, with no range, any
+-- ---- which values are allowed: those in one of some ranges
 
 pub record Range : Type 0 where
   pub low : ℕ
@@ -33,12 +33,8 @@ between a b = record { low = a; high = b }
 abbrev pub just : ℕ → Range
 just a = between a a
 
-abbrev pub free : List Range
-free = []
-
 abbrev pub inRange : ℕ → Range → Bool
 inRange v r = leb (r .low) v && leb v (r .high)
 
 unfoldable pub allows : List Range → ℕ → Bool
-allows [] v = true
-allows (r ∷ rs) v = some (inRange v) (r ∷ rs)
+allows rs v = some (inRange v) rs

@@ -46,15 +46,15 @@ module _ (f : List ℕ) (zero : verdictOf f .number ≡ 0) where
 
   directory : Stands f (view f .held) Tag.keyDirectory
   unfolding tagAt lineAt table
-  directory = stands f zero 13 (lit< tt)
+  directory = stands f zero 17 (lit< tt)
 
   doubles : Stands f (view f .held) Tag.doubles
   unfolding tagAt lineAt table
-  doubles = stands f zero 14 (lit< tt)
+  doubles = stands f zero 18 (lit< tt)
 
   characters : Stands f (view f .held) Tag.characters
   unfolding tagAt lineAt table
-  characters = stands f zero 15 (lit< tt)
+  characters = stands f zero 19 (lit< tt)
 
   runs-are : runs (view f .head .big) (Part Tag.keyDirectory) (Part Tag.doubles) (Part Tag.characters) ≡ runsOf (view f)
   unfolding runsOf

@@ -1,4 +1,4 @@
--- What the paper says of the rows' call, by its three cases: rules 1 to 22 refuse, rule 23 refuses, the file is accepted. And what all three have in
+-- What the paper says of the rows' call, by its three cases: a rule of the file refuses, rule 23 refuses, the file is accepted. And what all three have in
 -- common: the first K rows are the file's and the rest stay, with K at most the rows that are lent, and 0 on a refusal. Assumes nothing.
 use Prim.Native.Nat.{ℕ, _≤_, _<_, zero-le}
 use native.Mathlib.Nat.{not-suc-le-zero}

@@ -24,7 +24,7 @@ planBy e =
       characters = e .characters .start;
     }
 
--- all of them are 0 where the file is refused by rules 1 to 22
+-- all of them are 0 where a rule of the file refuses
 unfoldable pub planOf : List ℕ → Plan
 planOf f = planBy (examinedOf f)
 

@@ -1,8 +1,8 @@
--- What verdict 0 of rules 9 to 12 gives to the functions that come after: the four rules are kept, width and length have their bounds, and each
+-- What verdict 0 of rules 27 and 9 to 12 gives to the functions that come after: the five rules are kept, width and length have their bounds, and each
 -- tag's numbers in the columns are as its line says. Assumes nothing.
 use Prim.Native.Nat.{ℕ, _*_, _≤_, _<_}
 use mathlib.Core.Path.{_≡_, refl, sym, ap, _∙_, subst}
-use mathlib.Core.Bool.{Bool, true, false, cond, not, _||_}
+use mathlib.Core.Bool.{Bool, true, false, cond, not, _||_, or-true, Bool·not-not}
 use mathlib.Core.List.{List, [], _∷_, _++_}
 use native.Mathlib.Omega.{arith}
 use lib.Dec.{eqb, lit<}
@@ -15,17 +15,17 @@ use Rattle.paper.specs.declared.Outcome.the-variants.{Kept as kept}
 use Rattle.paper.specs.Tests.{all}
 use Rattle.paper.specs.Layout.{sizeOf}
 use Rattle.paper.specs.Tag
-use Rattle.paper.specs.Tags.{table, Held, has, countOf, valueOf, stripCount, rule9, rule10, rule11, rule12}
-use Rattle.paper.specs.Strips.{rule13, rule14}
-use Rattle.paper.specs.Judge.{View, viewAt, entriesIn, dirRun, countIn, stripsOf, fullOf}
+use Rattle.paper.specs.Tags.{table, Held, has, countOf, valueOf, tiled, offsetsTag, byteCountsTag, pieceCount, rule27, rule9, rule10, rule11, rule12}
+use Rattle.paper.specs.Pieces.{rule13, rule14}
+use Rattle.paper.specs.Judge.{View, viewAt, entriesIn, dirRun, countIn, piecesOf, fullOf}
 use Rattle.paper.specs.Judge as judge
-use Rattle.paper.proofs.Laws.{run-length-in}
+use Rattle.paper.proofs.Laws.{run-length-in, or-same}
 use Rattle.paper.proofs.First.{kept-first}
-use Rattle.tags.specs.Slots.{lineAt, tagAt}
-use Rattle.tags.specs.Numbers.{numbersOf, bitsOf}
+use Rattle.tags.specs.Slots.{lineAt, tagAt, offsetsSlot, byteCountsSlot}
+use Rattle.tags.specs.Numbers.{numbersOf, bitsOf, countOfPieces}
 use Rattle.tags.specs.Tagging.{entriesAt, heldAt, viewOf, tableRules, taggedBy, taggedOf, Ready}
 use Rattle.tags.proofs.Slots.{Slot, slot}
-use Rattle.tags.proofs.Rules.{Lined, lined, needed-lined, eleven-is, twelve-is}
+use Rattle.tags.proofs.Rules.{Lined, LinedAt, lined, needed-lined, no-strip, no-tile, eleven-is, counted-is, twelve-is}
 use Rattle.tags.proofs.Answers.{kind-is, typ-is, count-is, Allowed, eleven-gives, Agreed, twelve-gives}
 
 -- ---- the view and the rules, as the paper has them
@@ -36,19 +36,19 @@ pub view-is : (f : List ℕ) (big : Bool) (at c : ℕ) → c ≡ countIn f (reco
 unfolding viewOf heldAt entriesAt viewAt entriesIn dirRun
 view-is f big at c e = rw e
 
--- rules 9 to 12 come before 13 and 14
-pub rules-are : (v : View) → judge.tagRules v ≡ tableRules v ++ (13 ▸ rule13 (v .head .size) (stripsOf v) ∷ 14 ▸ rule14 (fullOf v) (stripsOf v) ∷ [])
+-- rules 27 and 9 to 12 come before 13 and 14
+pub rules-are : (v : View) → judge.tagRules v ≡ tableRules v ++ (13 ▸ rule13 (v .head .size) (piecesOf v) ∷ 14 ▸ rule14 (fullOf v) (piecesOf v) ∷ [])
 unfolding judge.tagRules tableRules
 rules-are v = refl
 
 -- ---- the columns of a tag
 
--- the offsets or the byte counts of the strips: SHORTs or LONGs, one for each strip
-pub record StripColumn (f : List ℕ) (hs : List Held) (typs counts starts lens : List ℕ) (strips t k : ℕ) : Type 0 where
+-- the offsets or the byte counts of the pieces: SHORTs or LONGs, one for each piece
+pub record PieceColumn (f : List ℕ) (hs : List Held) (typs counts starts lens : List ℕ) (pieces t k : ℕ) : Type 0 where
   pub slot : Slot f hs typs counts starts lens t k
   pub kind : eqb (getD typs k 0) 3 || eqb (getD typs k 0) 4 ≡ true
   pub wide : sizeOf (getD typs k 0) ≡ width (eqb (getD typs k 0) 4)
-  pub count : getD counts k 0 ≡ strips
+  pub count : getD counts k 0 ≡ pieces
   pub room : width (eqb (getD typs k 0) 4) * getD counts k 0 ≤ length (run f (getD starts k 0) (getD lens k 0))
 
 -- a tag that is absent or has so many bytes
@@ -67,9 +67,8 @@ width-of typ h = go (eqb typ 3) refl (eqb typ 4) refl h
     go false p false q g = cc
 
 module _ (f : List ℕ) (hs : List Held) (typs counts starts lens : List ℕ) (t k : ℕ) (s : Slot f hs typs counts starts lens t k) where
-  strip-column : {l m strips : ℕ} → Lined hs t 3 4 l m → countOf t hs ≡ strips → StripColumn f hs typs counts starts lens strips t k
-  strip-column g e =
-      let q = kind-is f hs typs counts starts lens t k s g in
+  piece-column : {pieces : ℕ} → eqb (getD typs k 0) 3 || eqb (getD typs k 0) 4 ≡ true → countOf t hs ≡ pieces → PieceColumn f hs typs counts starts lens pieces t k
+  piece-column q e =
       let w = width-of (getD typs k 0) q in
       record {
         slot = s;
@@ -99,6 +98,7 @@ module _ (f : List ℕ) (hs : List Held) (typs counts starts lens : List ℕ) (t
 -- ---- verdict 0
 
 pub record Accepted (f : List ℕ) (big : Bool) (at c : ℕ) (typs counts starts lens : List ℕ) : Type 0 where
+  pub twenty-seven : rule27 (heldAt f big at c) ≡ kept
   pub nine : rule9 table (heldAt f big at c) ≡ kept
   pub ten : rule10 table (heldAt f big at c) ≡ kept
   pub eleven : rule11 table big (heldAt f big at c) ≡ kept
@@ -109,18 +109,20 @@ pub record Accepted (f : List ℕ) (big : Bool) (at c : ℕ) (typs counts starts
   pub length-is : taggedOf (viewOf f big at c) .length ≡ valueOf big Tag.length (heldAt f big at c)
   pub length-low : 1 ≤ valueOf big Tag.length (heldAt f big at c)
   pub length-high : valueOf big Tag.length (heldAt f big at c) ≤ 1000000
-  pub offsets : StripColumn f (heldAt f big at c) typs counts starts lens
-      (stripCount (valueOf big Tag.length (heldAt f big at c)) (valueOf big Tag.rowsPerStrip (heldAt f big at c))) 273 5
-  pub sizes : StripColumn f (heldAt f big at c) typs counts starts lens
-      (stripCount (valueOf big Tag.length (heldAt f big at c)) (valueOf big Tag.rowsPerStrip (heldAt f big at c))) 279 8
-  pub as-many : getD counts 5 0 ≡ getD counts 8 0
-  pub scale : FixedColumn f (heldAt f big at c) typs counts starts lens 24 33550 10
-  pub tiepoint : FixedColumn f (heldAt f big at c) typs counts starts lens 48 33922 11
-  pub matrix : FixedColumn f (heldAt f big at c) typs counts starts lens 128 34264 12
-  pub directory : Slot f (heldAt f big at c) typs counts starts lens 34735 13
-  pub doubles : Slot f (heldAt f big at c) typs counts starts lens 34736 14
-  pub characters : Slot f (heldAt f big at c) typs counts starts lens 34737 15
-  pub metadata : Slot f (heldAt f big at c) typs counts starts lens 50909 16
+  pub tiled-is : taggedOf (viewOf f big at c) .tiled ≡ tiled (heldAt f big at c)
+  pub offsets : PieceColumn f (heldAt f big at c) typs counts starts lens
+      (pieceCount big (heldAt f big at c)) (offsetsTag (heldAt f big at c)) (offsetsSlot (tiled (heldAt f big at c)))
+  pub sizes : PieceColumn f (heldAt f big at c) typs counts starts lens
+      (pieceCount big (heldAt f big at c)) (byteCountsTag (heldAt f big at c)) (byteCountsSlot (tiled (heldAt f big at c)))
+  pub no-offsets : getD lens (offsetsSlot (not (tiled (heldAt f big at c)))) 0 ≡ 0
+  pub no-sizes : getD lens (byteCountsSlot (not (tiled (heldAt f big at c)))) 0 ≡ 0
+  pub scale : FixedColumn f (heldAt f big at c) typs counts starts lens 24 33550 14
+  pub tiepoint : FixedColumn f (heldAt f big at c) typs counts starts lens 48 33922 15
+  pub matrix : FixedColumn f (heldAt f big at c) typs counts starts lens 128 34264 16
+  pub directory : Slot f (heldAt f big at c) typs counts starts lens 34735 17
+  pub doubles : Slot f (heldAt f big at c) typs counts starts lens 34736 18
+  pub characters : Slot f (heldAt f big at c) typs counts starts lens 34737 19
+  pub metadata : Slot f (heldAt f big at c) typs counts starts lens 50909 20
 
 module _ (f : List ℕ) (big : Bool) (at c : ℕ) (typs counts starts lens : List ℕ) (r : Ready f big at c typs counts starts lens)
     (zero : taggedOf (viewOf f big at c) .verdict .number ≡ 0) where
@@ -128,40 +130,104 @@ module _ (f : List ℕ) (big : Bool) (at c : ℕ) (typs counts starts lens : Lis
   unfolding taggedOf taggedBy
   rules-zero = zero
 
+  mixed-kept : rule27 (heldAt f big at c) ≡ kept
+  unfolding tableRules viewOf all
+  mixed-kept = kept-first (tableRules (viewOf f big at c)) refl rules-zero 0
+
   nine-kept : rule9 table (heldAt f big at c) ≡ kept
   unfolding tableRules viewOf all
-  nine-kept = kept-first (tableRules (viewOf f big at c)) refl rules-zero 0
+  nine-kept = kept-first (tableRules (viewOf f big at c)) refl rules-zero 1
 
   ten-kept : rule10 table (heldAt f big at c) ≡ kept
   unfolding tableRules viewOf all
-  ten-kept = kept-first (tableRules (viewOf f big at c)) refl rules-zero 1
+  ten-kept = kept-first (tableRules (viewOf f big at c)) refl rules-zero 2
 
   eleven-kept : rule11 table big (heldAt f big at c) ≡ kept
   unfolding tableRules viewOf all
-  eleven-kept = kept-first (tableRules (viewOf f big at c)) refl rules-zero 2
+  eleven-kept = kept-first (tableRules (viewOf f big at c)) refl rules-zero 3
 
   twelve-kept : rule12 big (heldAt f big at c) ≡ kept
   unfolding tableRules viewOf all
-  twelve-kept = kept-first (tableRules (viewOf f big at c)) refl rules-zero 3
+  twelve-kept = kept-first (tableRules (viewOf f big at c)) refl rules-zero 4
 
   sides-are : (taggedOf (viewOf f big at c) .width ≡ valueOf big 256 (heldAt f big at c)) × (taggedOf (viewOf f big at c) .length ≡ valueOf big 257 (heldAt f big at c))
   unfolding taggedOf taggedBy viewOf
   sides-are = let e = eq-eqb _ 0 rules-zero in (rw e, rw e)
 
-  allowed : Allowed (numbersOf big (heldAt f big at c))
-  allowed = eleven-gives (numbersOf big (heldAt f big at c)) (bitsOf big (heldAt f big at c) .allowed) (eleven-is big (heldAt f big at c) nine-kept ten-kept ∙ eleven-kept)
+  tiles-are : taggedOf (viewOf f big at c) .tiled ≡ tiled (heldAt f big at c)
+  unfolding taggedOf taggedBy viewOf
+  tiles-are = let e = eq-eqb _ 0 rules-zero in rw e
 
-  agreed : Agreed (numbersOf big (heldAt f big at c)) (countOf 273 (heldAt f big at c)) (countOf 279 (heldAt f big at c))
-  agreed = twelve-gives (numbersOf big (heldAt f big at c)) (bitsOf big (heldAt f big at c)) _ _ _ (twelve-is big (heldAt f big at c) ∙ twelve-kept)
+  allowed : Allowed (numbersOf big (heldAt f big at c))
+  allowed = eleven-gives (numbersOf big (heldAt f big at c)) (bitsOf big (heldAt f big at c) .allowed) (eleven-is big (heldAt f big at c) mixed-kept nine-kept ten-kept ∙ eleven-kept)
+
+  agreed : Agreed (numbersOf big (heldAt f big at c)) (tiled (heldAt f big at c)) (countOf (offsetsTag (heldAt f big at c)) (heldAt f big at c)) (countOf (byteCountsTag (heldAt f big at c)) (heldAt f big at c))
+  agreed =
+      twelve-gives (numbersOf big (heldAt f big at c)) (bitsOf big (heldAt f big at c)) (tiled (heldAt f big at c)) _ _ _ (twelve-is big (heldAt f big at c) ∙ twelve-kept)
+
+  counted : countOfPieces (numbersOf big (heldAt f big at c)) (tiled (heldAt f big at c)) ≡ pieceCount big (heldAt f big at c)
+  counted = counted-is big (heldAt f big at c)
+
+  here : (k : ℕ) → k < 21 → Slot f (heldAt f big at c) typs counts starts lens (tagAt k) k
+  here = slot f big at c typs counts starts lens r
+
+  -- a tag of pieces that is present: SHORT or LONG, or LONG alone
+  kind-of : (k : ℕ) (h : k < 21) → LinedAt (heldAt f big at c) k → eqb (getD typs k 0) (lineAt k .type) || eqb (getD typs k 0) (lineAt k .other) ≡ true
+  kind-of k h l = kind-is f (heldAt f big at c) typs counts starts lens (tagAt k) k (here k h) l
+
+  column-of : (pieces t k : ℕ) → Slot f (heldAt f big at c) typs counts starts lens t k → countOf t (heldAt f big at c) ≡ pieces
+      → eqb (getD typs k 0) 3 || eqb (getD typs k 0) 4 ≡ true → PieceColumn f (heldAt f big at c) typs counts starts lens pieces t k
+  column-of pieces t k s e q = piece-column f (heldAt f big at c) typs counts starts lens t k s q e
+
+  offsets-column : PieceColumn f (heldAt f big at c) typs counts starts lens
+      (pieceCount big (heldAt f big at c)) (offsetsTag (heldAt f big at c)) (offsetsSlot (tiled (heldAt f big at c)))
+  unfolding lineAt tagAt table offsetsSlot
+  offsets-column = go (tiled (heldAt f big at c)) refl (agreed .offsets-are ∙ counted)
+    where
+      go : (b : Bool) → tiled (heldAt f big at c) ≡ b → countOf (cond b 324 273) (heldAt f big at c) ≡ pieceCount big (heldAt f big at c)
+          → PieceColumn f (heldAt f big at c) typs counts starts lens (pieceCount big (heldAt f big at c)) (cond b 324 273) (cond b 12 5)
+      go true e q =
+          let l = needed-lined (heldAt f big at c) nine-kept ten-kept 12 (lit< tt) e in
+          column-of _ 324 12 (here 12 (lit< tt)) q (rw (or-same (eqb (getD typs 12 0) 4) (kind-of 12 (lit< tt) l), or-true (eqb (getD typs 12 0) 3)))
+      go false e q = column-of _ 273 5 (here 5 (lit< tt)) q (kind-of 5 (lit< tt) (needed-lined (heldAt f big at c) nine-kept ten-kept 5 (lit< tt) (ap not e)))
+
+  sizes-column : PieceColumn f (heldAt f big at c) typs counts starts lens
+      (pieceCount big (heldAt f big at c)) (byteCountsTag (heldAt f big at c)) (byteCountsSlot (tiled (heldAt f big at c)))
+  unfolding lineAt tagAt table byteCountsSlot
+  sizes-column = go (tiled (heldAt f big at c)) refl (agreed .sizes-are ∙ counted)
+    where
+      go : (b : Bool) → tiled (heldAt f big at c) ≡ b → countOf (cond b 325 279) (heldAt f big at c) ≡ pieceCount big (heldAt f big at c)
+          → PieceColumn f (heldAt f big at c) typs counts starts lens (pieceCount big (heldAt f big at c)) (cond b 325 279) (cond b 13 8)
+      go true e q = column-of _ 325 13 (here 13 (lit< tt)) q (kind-of 13 (lit< tt) (needed-lined (heldAt f big at c) nine-kept ten-kept 13 (lit< tt) e))
+      go false e q = column-of _ 279 8 (here 8 (lit< tt)) q (kind-of 8 (lit< tt) (needed-lined (heldAt f big at c) nine-kept ten-kept 8 (lit< tt) (ap not e)))
+
+  -- a tag of the other family is absent
+  none-at : (k : ℕ) → k < 21 → has (tagAt k) (heldAt f big at c) ≡ false → getD lens k 0 ≡ 0
+  none-at k h n = here k h .none (eqb-true _ 0 (sym (Bool·not-not _) ∙ ap not (sym (here k h .present) ∙ n)))
+
+  no-offsets-column : getD lens (offsetsSlot (not (tiled (heldAt f big at c)))) 0 ≡ 0
+  unfolding lineAt tagAt table offsetsSlot
+  no-offsets-column = go (tiled (heldAt f big at c)) refl
+    where
+      go : (b : Bool) → tiled (heldAt f big at c) ≡ b → getD lens (cond (not b) 12 5) 0 ≡ 0
+      go true e = none-at 5 (lit< tt) (no-strip (heldAt f big at c) mixed-kept e .0)
+      go false e = none-at 12 (lit< tt) (no-tile (heldAt f big at c) mixed-kept e .2)
+
+  no-sizes-column : getD lens (byteCountsSlot (not (tiled (heldAt f big at c)))) 0 ≡ 0
+  unfolding lineAt tagAt table byteCountsSlot
+  no-sizes-column = go (tiled (heldAt f big at c)) refl
+    where
+      go : (b : Bool) → tiled (heldAt f big at c) ≡ b → getD lens (cond (not b) 13 8) 0 ≡ 0
+      go true e = none-at 8 (lit< tt) (no-strip (heldAt f big at c) mixed-kept e .2)
+      go false e = none-at 13 (lit< tt) (no-tile (heldAt f big at c) mixed-kept e .3)
 
   pub accepted : Accepted f big at c typs counts starts lens
   unfolding numbersOf lineAt tagAt table sizeOf
   accepted =
       let hs = heldAt f big at c in
-      let s : (k : ℕ) → k < 17 → Slot f (heldAt f big at c) typs counts starts lens (tagAt k) k = slot f big at c typs counts starts lens r in
       let a = allowed in
-      let b = agreed in
       record {
+        twenty-seven = mixed-kept;
         nine = nine-kept;
         ten = ten-kept;
         eleven = eleven-kept;
@@ -172,14 +238,16 @@ module _ (f : List ℕ) (big : Bool) (at c : ℕ) (typs counts starts lens : Lis
         length-is = sides-are .1;
         length-low = a .length-low;
         length-high = a .length-high;
-        offsets = strip-column f hs typs counts starts lens 273 5 (s 5 (lit< tt)) (needed-lined hs nine-kept ten-kept 5 (lit< tt) refl) (b .offsets-are);
-        sizes = strip-column f hs typs counts starts lens 279 8 (s 8 (lit< tt)) (needed-lined hs nine-kept ten-kept 8 (lit< tt) refl) (b .sizes-are);
-        as-many = sym (s 5 (lit< tt) .count) ∙ b .offsets-are ∙ sym (b .sizes-are) ∙ s 8 (lit< tt) .count;
-        scale = fixed-column f hs typs counts starts lens 33550 10 (s 10 (lit< tt)) (lined hs ten-kept 10 (lit< tt)) refl;
-        tiepoint = fixed-column f hs typs counts starts lens 33922 11 (s 11 (lit< tt)) (lined hs ten-kept 11 (lit< tt)) refl;
-        matrix = fixed-column f hs typs counts starts lens 34264 12 (s 12 (lit< tt)) (lined hs ten-kept 12 (lit< tt)) refl;
-        directory = s 13 (lit< tt);
-        doubles = s 14 (lit< tt);
-        characters = s 15 (lit< tt);
-        metadata = s 16 (lit< tt);
+        tiled-is = tiles-are;
+        offsets = offsets-column;
+        sizes = sizes-column;
+        no-offsets = no-offsets-column;
+        no-sizes = no-sizes-column;
+        scale = fixed-column f hs typs counts starts lens 33550 14 (here 14 (lit< tt)) (lined hs ten-kept 14 (lit< tt)) refl;
+        tiepoint = fixed-column f hs typs counts starts lens 33922 15 (here 15 (lit< tt)) (lined hs ten-kept 15 (lit< tt)) refl;
+        matrix = fixed-column f hs typs counts starts lens 34264 16 (here 16 (lit< tt)) (lined hs ten-kept 16 (lit< tt)) refl;
+        directory = here 17 (lit< tt);
+        doubles = here 18 (lit< tt);
+        characters = here 19 (lit< tt);
+        metadata = here 20 (lit< tt);
       }

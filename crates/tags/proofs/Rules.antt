@@ -1,8 +1,8 @@
--- Rules 11 and 12 over the values alone, where rules 9 and 10 are kept: a present tag is as its line says, and a line with no value rule
--- disallows nothing. Assumes nothing.
+-- Rules 11 and 12 over the values alone, where rules 27, 9 and 10 are kept: a present tag is as its line says, one that is not asked for counts as a number
+-- that is allowed, and a line with no value rule disallows nothing. Assumes nothing.
 use Prim.Native.Nat.{ℕ, _≤_, _<_}
-use mathlib.Core.Path.{_≡_, refl}
-use mathlib.Core.Bool.{Bool, true, false, cond, not, _&&_, _||_, and-true, and-false}
+use mathlib.Core.Path.{_≡_, refl, sym}
+use mathlib.Core.Bool.{Bool, true, false, cond, not, _&&_, _||_, and-true, and-false, false≢true}
 use mathlib.Core.List.{List, [], _∷_}
 use native.Mathlib.Nat.{mul-zero}
 use native.Mathlib.Omega.{arith}
@@ -13,11 +13,11 @@ use Rattle.paper.specs.Bytes.{build, elems}
 use Rattle.paper.specs.Outcome.{firstBad}
 use Rattle.paper.specs.declared.Outcome.the-variants.{Kept as kept}
 use Rattle.paper.specs.Tests.{all, some, allows}
-use Rattle.paper.specs.Tags.{Line, table, Held, find, has, countOf, valueOf, valuesOf, lacks, rule9, fitsLine, rule10, disallowed, rule11, rule12}
-use Rattle.paper.proofs.Laws.{and-eq, kept-all}
+use Rattle.paper.specs.Tags.{Line, any, sixteens, table, Held, find, has, countOf, valueOf, valuesOf, stripTags, tileTags, hasSome, tiled, rule27, offsetsTag, byteCountsTag, pieceCount, lacks, rule9, fitsLine, rule10, disallowed, rule11, rule12}
+use Rattle.paper.proofs.Laws.{and-eq, or-false, breaks-kept, kept-all}
 use Rattle.paper.proofs.Bounds.{noLine, fits-line}
 use Rattle.tags.specs.Slots.{lineAt, tagAt}
-use Rattle.tags.specs.Numbers.{numbersOf, bitsOf, elevenOf, twelveOf}
+use Rattle.tags.specs.Numbers.{numbersOf, bitsOf, elevenOf, countOfPieces, twelveOf}
 
 -- ---- a present tag
 
@@ -32,7 +32,7 @@ pub record Lined (hs : List Held) (t a b least most : ℕ) : Type 0 where
 abbrev pub LinedAt : List Held → ℕ → Type 0
 LinedAt hs k = Lined hs (tagAt k) (lineAt k .type) (lineAt k .other) (lineAt k .least) (lineAt k .most)
 
-pub lined : (hs : List Held) → rule10 table hs ≡ kept → (k : ℕ) → k < 17 → has (tagAt k) hs ≡ true → LinedAt hs k
+pub lined : (hs : List Held) → rule10 table hs ≡ kept → (k : ℕ) → k < 21 → has (tagAt k) hs ≡ true → LinedAt hs k
 unfolding tagAt lineAt fitsLine table
 lined hs ten k h p =
     let l : Line = getD table k noLine in
@@ -41,14 +41,14 @@ lined hs ten k h p =
     let b = and-eq (leb (l .least) n) (leb n (l .most)) (a .1) in
     record { present = p; kind = a .0; low = leb-true _ _ (b .0); high = leb-true _ _ (b .1) }
 
-needed-has : (hs : List Held) → rule9 table hs ≡ kept → (k : ℕ) → k < 17 → lineAt k .needed ≡ true → has (tagAt k) hs ≡ true
+needed-has : (hs : List Held) → rule9 table hs ≡ kept → (k : ℕ) → k < 21 → lineAt k .needed (tiled hs) ≡ true → has (tagAt k) hs ≡ true
 unfolding rule9 lacks tagAt lineAt table
 needed-has hs nine k h n =
-    let m : getD table k noLine .needed && not (has (getD table k noLine .tag) hs) ≡ false = kept-all (lacks hs) _ table noLine nine k h in
+    let m : getD table k noLine .needed (tiled hs) && not (has (getD table k noLine .tag) hs) ≡ false = kept-all (lacks hs) _ table noLine nine k h in
     not-false _ (rw n at m)
 
 -- and is present where it is needed
-pub needed-lined : (hs : List Held) → rule9 table hs ≡ kept → rule10 table hs ≡ kept → (k : ℕ) → k < 17 → lineAt k .needed ≡ true → LinedAt hs k
+pub needed-lined : (hs : List Held) → rule9 table hs ≡ kept → rule10 table hs ≡ kept → (k : ℕ) → k < 21 → lineAt k .needed (tiled hs) ≡ true → LinedAt hs k
 needed-lined hs nine ten k h n = lined hs ten k h (needed-has hs nine k h n)
 
 -- ---- its values
@@ -59,70 +59,109 @@ one-value big t hs e = rw (e, mul-zero)
 
 module _ (big : Bool) (hs : List Held) where
   -- a tag of count 1
-  one-bad : (k : ℕ) → Lined hs (tagAt k) (lineAt k .type) (lineAt k .other) 1 1 → disallowed big hs (lineAt k) ≡ not (allows (lineAt k .values) (valueOf big (tagAt k) hs))
+  one-bad : (k : ℕ) → Lined hs (tagAt k) (lineAt k .type) (lineAt k .other) 1 1 → disallowed big hs (lineAt k) ≡ not (lineAt k .values (valueOf big (tagAt k) hs))
   unfolding disallowed tagAt all
   one-bad k l =
       let e : countOf (tagAt k) hs ≡ 1 = omega (arith, l .low, l .high) in
       rw (l .present, one-value big (tagAt k) hs e, and-true)
 
   -- a line with no value rule
-  free-all : (vs : List ℕ) → all (allows []) vs ≡ true
-  unfolding all allows
-  free-all [] = refl
-  free-all (v ∷ vs) = free-all vs
+  any-all : (vs : List ℕ) → all any vs ≡ true
+  unfolding all
+  any-all [] = refl
+  any-all (v ∷ vs) = any-all vs
 
-  free-bad : (k : ℕ) → lineAt k .values ≡ [] → disallowed big hs (lineAt k) ≡ false
+  any-bad : (k : ℕ) → lineAt k .values ≡ any → disallowed big hs (lineAt k) ≡ false
   unfolding disallowed
-  free-bad k e = rw (e, free-all, and-false)
+  any-bad k e = rw (e, any-all, and-false)
 
-  -- planar, which may be absent
-  planar-there : rule10 table hs ≡ kept → has 284 hs ≡ true → disallowed big hs (lineAt 9) ≡ not (allows (lineAt 9 .values) (valueOf big 284 hs))
-  unfolding tagAt lineAt table
-  planar-there ten p = one-bad 9 (lined hs ten 9 (lit< tt) p)
+  -- a tag of count 1 that is present where it is asked for, and else absent; not asked for, it counts as one that is allowed
+  absent-bad : (k other : ℕ) → lineAt k .values other ≡ true → has (tagAt k) hs ≡ false → disallowed big hs (lineAt k) ≡ not (lineAt k .values other)
+  unfolding disallowed tagAt
+  absent-bad k other ok p = rw (p, ok)
 
-  planar-none : has 284 hs ≡ false → disallowed big hs (lineAt 9) ≡ not (allows (lineAt 9 .values) 1)
-  unfolding disallowed lineAt table allows some
-  planar-none p = rw p
-
-  planar-bad : rule10 table hs ≡ kept → disallowed big hs (lineAt 9) ≡ not (allows (lineAt 9 .values) (numbersOf big hs .planar))
-  unfolding numbersOf
-  planar-bad ten = go (has 284 hs) refl
-    where
-      go : (b : Bool) → has 284 hs ≡ b → disallowed big hs (lineAt 9) ≡ not (allows (lineAt 9 .values) (cond (has 284 hs) (valueOf big 284 hs) 1))
-      go true p = rw p (planar-there ten p)
-      go false p = rw p (planar-none p)
+  asked-bad : (k other : ℕ) (asked : Bool) → (asked ≡ true → Lined hs (tagAt k) (lineAt k .type) (lineAt k .other) 1 1) → (asked ≡ false → has (tagAt k) hs ≡ false)
+      → lineAt k .values other ≡ true → disallowed big hs (lineAt k) ≡ not (lineAt k .values (cond asked (valueOf big (tagAt k) hs) other))
+  asked-bad k other true l n ok = one-bad k (l refl)
+  asked-bad k other false l n ok = absent-bad k other ok (n refl)
 
   bits-bad : LinedAt hs 2 → disallowed big hs (lineAt 2) ≡ not (bitsOf big hs .allowed)
   unfolding disallowed tagAt lineAt table bitsOf
   bits-bad l = rw (l .present)
 
+-- ---- the other family
+
+-- where rule 27 is kept, no tag of the other family is present
+module _ (hs : List Held) (mixed : rule27 hs ≡ kept) where
+  none-else : (b : Bool) → tiled hs ≡ b → hasSome (cond b stripTags tileTags) hs ≡ false
+  unfolding rule27
+  none-else true e = not-both _ _ e (breaks-kept _ _ mixed)
+    where
+      not-both : (s t : Bool) → t ≡ true → (s && t) || (not s && not t) ≡ false → s ≡ false
+      not-both true true h k = absurd (false≢true (sym k))
+      not-both true false h k = absurd (false≢true h)
+      not-both false t h k = refl
+  none-else false e = e
+
+  pub no-strip : tiled hs ≡ true → (has 273 hs ≡ false) × (has 278 hs ≡ false) × (has 279 hs ≡ false)
+  unfolding hasSome some
+  no-strip e =
+      let a = or-false (has 273 hs) _ (none-else true e) in
+      let b = or-false (has 278 hs) _ (a .1) in
+      (a .0, b .0, or-false (has 279 hs) _ (b .1) .0)
+
+  pub no-tile : tiled hs ≡ false → (has 322 hs ≡ false) × (has 323 hs ≡ false) × (has 324 hs ≡ false) × (has 325 hs ≡ false)
+  unfolding hasSome some
+  no-tile e =
+      let a = or-false (has 322 hs) _ (none-else false e) in
+      let b = or-false (has 323 hs) _ (a .1) in
+      let c = or-false (has 324 hs) _ (b .1) in
+      (a .0, b .0, c .0, or-false (has 325 hs) _ (c .1) .0)
+
 -- ---- the two rules
 
-pub eleven-is : (big : Bool) (hs : List Held) → rule9 table hs ≡ kept → rule10 table hs ≡ kept
+not-not : (b : Bool) → not b ≡ false → b ≡ true
+not-not true h = refl
+not-not false h = sym h
+
+pub eleven-is : (big : Bool) (hs : List Held) → rule27 hs ≡ kept → rule9 table hs ≡ kept → rule10 table hs ≡ kept
     → elevenOf (numbersOf big hs) (bitsOf big hs .allowed) ≡ rule11 table big hs
-unfolding rule11 elevenOf numbersOf firstBad lineAt tagAt table
-eleven-is big hs nine ten =
+unfolding rule11 elevenOf numbersOf firstBad lineAt tagAt table allows some sixteens
+eleven-is big hs mixed nine ten =
+    let needed : (k : ℕ) → k < 21 → lineAt k .needed (tiled hs) ≡ true → LinedAt hs k = needed-lined hs nine ten in
     rw (
-      one-bad big hs 0 (needed-lined hs nine ten 0 (lit< tt) refl),
-      one-bad big hs 1 (needed-lined hs nine ten 1 (lit< tt) refl),
-      bits-bad big hs (needed-lined hs nine ten 2 (lit< tt) refl),
-      one-bad big hs 3 (needed-lined hs nine ten 3 (lit< tt) refl),
-      one-bad big hs 4 (needed-lined hs nine ten 4 (lit< tt) refl),
-      free-bad big hs 5 refl,
-      one-bad big hs 6 (needed-lined hs nine ten 6 (lit< tt) refl),
-      one-bad big hs 7 (needed-lined hs nine ten 7 (lit< tt) refl),
-      free-bad big hs 8 refl,
-      planar-bad big hs ten,
-      free-bad big hs 10 refl,
-      free-bad big hs 11 refl,
-      free-bad big hs 12 refl,
-      free-bad big hs 13 refl,
-      free-bad big hs 14 refl,
-      free-bad big hs 15 refl,
-      free-bad big hs 16 refl,
+      one-bad big hs 0 (needed 0 (lit< tt) refl),
+      one-bad big hs 1 (needed 1 (lit< tt) refl),
+      bits-bad big hs (needed 2 (lit< tt) refl),
+      one-bad big hs 3 (needed 3 (lit< tt) refl),
+      one-bad big hs 4 (needed 4 (lit< tt) refl),
+      any-bad big hs 5 refl,
+      one-bad big hs 6 (needed 6 (lit< tt) refl),
+      asked-bad big hs 7 1 (not (tiled hs)) (needed 7 (lit< tt)) (λ e. no-strip hs mixed (not-not (tiled hs) e) .1) refl,
+      any-bad big hs 8 refl,
+      asked-bad big hs 9 1 (has 284 hs) (lined hs ten 9 (lit< tt)) (λ e. e) refl,
+      asked-bad big hs 10 16 (tiled hs) (needed 10 (lit< tt)) (λ e. no-tile hs mixed e .0) refl,
+      asked-bad big hs 11 16 (tiled hs) (needed 11 (lit< tt)) (λ e. no-tile hs mixed e .1) refl,
+      any-bad big hs 12 refl,
+      any-bad big hs 13 refl,
+      any-bad big hs 14 refl,
+      any-bad big hs 15 refl,
+      any-bad big hs 16 refl,
+      any-bad big hs 17 refl,
+      any-bad big hs 18 refl,
+      any-bad big hs 19 refl,
+      any-bad big hs 20 refl,
     )
 
+pub counted-is : (big : Bool) (hs : List Held) → countOfPieces (numbersOf big hs) (tiled hs) ≡ pieceCount big hs
+unfolding countOfPieces numbersOf pieceCount
+counted-is big hs = go (tiled hs) refl
+  where
+    go : (t : Bool) → tiled hs ≡ t → countOfPieces (numbersOf big hs) (tiled hs) ≡ pieceCount big hs
+    go true e = rw e
+    go false e = rw e
+
 pub twelve-is : (big : Bool) (hs : List Held)
-    → twelveOf (numbersOf big hs) (bitsOf big hs) (countOf 258 hs) (countOf 273 hs) (countOf 279 hs) ≡ rule12 big hs
+    → twelveOf (numbersOf big hs) (bitsOf big hs) (tiled hs) (countOf 258 hs) (countOf (offsetsTag hs) hs) (countOf (byteCountsTag hs) hs) ≡ rule12 big hs
 unfolding rule12 twelveOf numbersOf bitsOf
-twelve-is big hs = refl
+twelve-is big hs = rw (counted-is big hs)

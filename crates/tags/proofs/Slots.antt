@@ -1,4 +1,4 @@
--- What the columns of a directory say of each tag of the table, and that rules 9 and 10 over the columns are those of the paper.
+-- What the columns of a directory say of each tag of the table, and that rules 27, 9 and 10 over the columns are those of the paper.
 -- A tag is present exactly where its start is not 0. Assumes nothing.
 use Prim.Native.Nat.{ℕ, zero, suc, _+_, _-_, _*_, _≤_, _<_}
 use mathlib.Core.Path.{_≡_, refl, sym, ap, ap₂, _∙_, subst}
@@ -6,18 +6,18 @@ use mathlib.Core.Bool.{Bool, true, false, cond, not, _&&_, Bool·not-not}
 use mathlib.Core.List.{List, [], _∷_, _++_, map, map-map}
 use native.Mathlib.Nat.{not-suc-le-zero, le-of-suc-le-suc, zero-mul}
 use native.Mathlib.Omega.{arith}
-use lib.Dec.{eqb, ltb}
+use lib.Dec.{eqb, ltb, lit<}
 use lib.ListN.{length, getD, List·getD-append, List·getD-map}
-use borrow.Author.Tests.{ne-eqb, eq-eqb, ltb-true, ltb-false, not-true}
+use borrow.Author.Tests.{ne-eqb, eq-eqb, ltb-true, ltb-false, not-true, not-false}
 use Rattle.paper.specs.Bytes.{run, num}
 use Rattle.paper.specs.Outcome.{firstBad}
-use Rattle.paper.specs.Tests.{all}
+use Rattle.paper.specs.Tests.{all, some}
 use Rattle.paper.specs.Layout.{dirLen, sizeOf, typed, startOf, entryOf, entryAt, entries, rule7}
-use Rattle.paper.specs.Tags.{Line, table, inTable, Held, find, findEntry, absent, has, bytesOf, lacks, rule9, fitsLine, misfits, rule10}
+use Rattle.paper.specs.Tags.{Line, table, inTable, Held, find, findEntry, absent, has, bytesOf, stripTags, hasSome, tiled, lacks, rule9, fitsLine, misfits, rule10}
 use Rattle.paper.specs.declared.Entry.{Entry}
 use Rattle.paper.specs.declared.Outcome.{Outcome}
 use Rattle.paper.specs.declared.Outcome.the-variants.{Kept as kept, Broken as broken}
-use Rattle.paper.proofs.Laws.{all-at, first-same}
+use Rattle.paper.proofs.Laws.{all-at, first-same, kept-all, or-false}
 use Rattle.paper.proofs.Loops.{find-entry}
 use Rattle.paper.proofs.Bounds.{noLine, entry-inside}
 use Rattle.layout.specs.Columns.{tags, fieldOf, column, typsOf, countsOf, startsOf, lensOf}
@@ -25,7 +25,7 @@ use Rattle.layout.specs.Finding.{placeIn}
 use Rattle.layout.proofs.Sizes.{len-of}
 use Rattle.layout.proofs.Finding.{Found, found-place}
 use Rattle.layout.proofs.Values.{place-within, found-bytes, tag-in}
-use Rattle.tags.specs.Slots.{lineAt, tagAt, slots, lacksAt, nineOf, misfit, misfitAt, tenFrom}
+use Rattle.tags.specs.Slots.{lineAt, tagAt, slots, stripSlots, tileSlots, someAt, lacksAt, nineFrom, unlike, misfit, misfitAt, tenFrom}
 use Rattle.tags.specs.Tagging.{entriesAt, heldAt, Ready}
 
 -- ---- a column
@@ -44,19 +44,19 @@ at-map g [] d k h = absurd (not-suc-le-zero h)
 at-map g (l ∷ ls) d zero h = refl
 at-map g (l ∷ ls) d (suc k) h = at-map g ls d k (le-of-suc-le-suc h)
 
-column-at : (field : Entry → ℕ) → field (absent .entry) ≡ 0 → (es : List Entry) (k : ℕ) → k < 17 → getD (column field es) k 0 ≡ field (findEntry (tagAt k) es)
+column-at : (field : Entry → ℕ) → field (absent .entry) ≡ 0 → (es : List Entry) (k : ℕ) → k < 21 → getD (column field es) k 0 ≡ field (findEntry (tagAt k) es)
 unfolding column tags tagAt lineAt table
 column-at field z es k h =
     ap (λ (l : List ℕ). getD l k 0) (map-map (λ (t : ℕ). fieldOf field t es) (λ (l : Line). l .tag) table)
     ∙ at-map (λ (l : Line). fieldOf field (l .tag) es) table noLine k h
     ∙ field-find field z (tagAt k) es
 
-column-length : (field : Entry → ℕ) (es : List Entry) → length (column field es) ≡ 17
+column-length : (field : Entry → ℕ) (es : List Entry) → length (column field es) ≡ 21
 unfolding column tags table
 column-length field es = refl
 
 -- with more numbers behind it
-column-front : (field : Entry → ℕ) → field (absent .entry) ≡ 0 → (es : List Entry) (ys : List ℕ) (k : ℕ) → k < 17
+column-front : (field : Entry → ℕ) → field (absent .entry) ≡ 0 → (es : List Entry) (ys : List ℕ) (k : ℕ) → k < 21
     → getD (column field es ++ ys) k 0 ≡ field (findEntry (tagAt k) es)
 column-front field z es ys k h =
     List·getD-append (column field es) ys 0 k (subst (λ (m : ℕ). k < m) (sym (column-length field es)) h) ∙ column-at field z es k h
@@ -133,39 +133,39 @@ module _ (f : List ℕ) (big : Bool) (at c : ℕ) (typs counts starts lens : Lis
   unfolding heldAt
   held-is k = find-entry table f (tagAt k) (entriesAt f big at c)
 
-  typ-is : (k : ℕ) → k < 17 → Of k .typ ≡ getD typs k 0
+  typ-is : (k : ℕ) → k < 21 → Of k .typ ≡ getD typs k 0
   unfolding typsOf
   typ-is k h = sym (ap (λ (l : List ℕ). getD l k 0) (r .typs-are) ∙ column-at (λ (e : Entry). e .typ) refl (entriesAt f big at c) k h)
 
-  count-is : (k : ℕ) → k < 17 → Of k .count ≡ getD counts k 0
+  count-is : (k : ℕ) → k < 21 → Of k .count ≡ getD counts k 0
   unfolding countsOf
   count-is k h = sym (ap (λ (l : List ℕ). getD l k 0) (r .counts-are) ∙ column-at (λ (e : Entry). e .count) refl (entriesAt f big at c) k h)
 
-  start-is : (k : ℕ) → k < 17 → Of k .start ≡ getD starts k 0
+  start-is : (k : ℕ) → k < 21 → Of k .start ≡ getD starts k 0
   unfolding startsOf
   start-is k h = sym (ap (λ (l : List ℕ). getD l k 0) (r .starts-are) ∙ column-front (λ (e : Entry). e .start) refl (entriesAt f big at c) _ k h)
 
-  len-is : (k : ℕ) → k < 17 → Of k .len ≡ getD lens k 0
+  len-is : (k : ℕ) → k < 21 → Of k .len ≡ getD lens k 0
   unfolding lensOf
   len-is k h = sym (ap (λ (l : List ℕ). getD l k 0) (r .lens-are) ∙ column-front (λ (e : Entry). e .len) refl (entriesAt f big at c) _ k h)
 
-  tag-some : (k : ℕ) → k < 17 → eqb 0 (tagAt k) ≡ false
+  tag-some : (k : ℕ) → k < 21 → eqb 0 (tagAt k) ≡ false
   unfolding tagAt lineAt table
   tag-some k h = not-true _ (all-at (λ (l : Line). not (eqb 0 (l .tag))) table noLine tags-some k h)
 
-  tag-listed : (k : ℕ) → k < 17 → inTable table (tagAt k) ≡ true
+  tag-listed : (k : ℕ) → k < 21 → inTable table (tagAt k) ≡ true
   unfolding tagAt lineAt tags
   tag-listed k h = subst (λ (t : ℕ). inTable table t ≡ true) (List·getD-map (λ (l : Line). l .tag) table k noLine) (tag-in k h)
 
-  whole-at : (k : ℕ) → k < 17 → Whole (length f) (tagAt k) (Of k)
+  whole-at : (k : ℕ) → k < 21 → Whole (length f) (tagAt k) (Of k)
   unfolding entriesAt
   whole-at k h = whole (length f) at c big (run f at (dirLen c)) (r .low) (r .whole) (r .seven) (tagAt k) (tag-some k h)
 
-  bytes-are : (k : ℕ) → k < 17 → bytesOf (tagAt k) (heldAt f big at c) ≡ run f (Of k .start) (Of k .len)
+  bytes-are : (k : ℕ) → k < 21 → bytesOf (tagAt k) (heldAt f big at c) ≡ run f (Of k .start) (Of k .len)
   unfolding heldAt entriesAt
   bytes-are k h = found-bytes f (tagAt k) big at c (run f at (dirLen c)) (tag-listed k h)
 
-  pub slot : (k : ℕ) → k < 17 → Slot f (heldAt f big at c) typs counts starts lens (tagAt k) k
+  pub slot : (k : ℕ) → k < 21 → Slot f (heldAt f big at c) typs counts starts lens (tagAt k) k
   unfolding has
   slot k h =
       let s = start-is k h in
@@ -183,7 +183,29 @@ module _ (f : List ℕ) (big : Bool) (at c : ℕ) (typs counts starts lens : Lis
         within = subst (λ (x : ℕ). x + getD lens k 0 ≤ length f) s (subst (λ (y : ℕ). Of k .start + y ≤ length f) l (w .within));
       }
 
--- ---- rules 9 and 10
+-- ---- rules 27, 9 and 10
+
+-- where no tag of some lines is present, each starts at 0 and so breaks nothing
+none-at : (ks starts : List ℕ) → someAt ks starts ≡ false → (i : ℕ) → i < length ks → eqb (getD starts (getD ks i 0) 0) 0 ≡ true
+unfolding someAt some
+none-at [] starts h i l = absurd (not-suc-le-zero l)
+none-at (k ∷ ks) starts h zero l = not-false _ (or-false (not (eqb (getD starts k 0) 0)) _ h .0)
+none-at (k ∷ ks) starts h (suc i) l = none-at ks starts (or-false (not (eqb (getD starts k 0) 0)) _ h .1) i (le-of-suc-le-suc l)
+
+pub absent-fits : (ks typs counts starts : List ℕ) → someAt ks starts ≡ false → (i : ℕ) → i < length ks → misfitAt typs counts starts (getD ks i 0) ≡ false
+unfolding misfitAt misfit
+absent-fits ks typs counts starts h i l = rw (none-at ks starts h i l)
+
+-- where rule 9 is kept, a needed tag starts elsewhere
+pub needed-at : (tiled : Bool) (starts : List ℕ) → nineFrom 0 tiled starts ≡ kept → (i : ℕ) → i < 21 → lineAt (getD slots i 0) .needed tiled ≡ true
+    → eqb (getD starts (getD slots i 0) 0) 0 ≡ false
+unfolding nineFrom slots lacksAt
+needed-at tiled starts h i l n =
+    let m : lacksAt tiled starts (getD slots i 0) ≡ false = kept-all (lacksAt tiled starts) tagAt slots 0 h i l in
+    there (getD slots i 0) n m
+  where
+    there : (k : ℕ) → lineAt k .needed tiled ≡ true → lacksAt tiled starts k ≡ false → eqb (getD starts k 0) 0 ≡ false
+    there k n m = rw n at m
 
 first-map : {A B : Type 0} (bad : B → Bool) (place : B → ℕ) (g : A → B) (xs : List A)
     → firstBad bad place (map g xs) ≡ firstBad (λ (x : A). bad (g x)) (λ (x : A). place (g x)) xs
@@ -191,7 +213,7 @@ unfolding firstBad
 first-map bad place g [] = refl
 first-map bad place g (x ∷ xs) = ap (λ (o : Outcome). cond (bad (g x)) (broken (place (g x))) o) (first-map bad place g xs)
 
-slots-low : all (λ k. ltb k 17) slots ≡ true
+slots-low : all (λ k. ltb k 21) slots ≡ true
 unfolding all slots
 slots-low = refl
 
@@ -200,28 +222,39 @@ unfolding lineAt slots table
 lines = refl
 
 -- a test of each line, and one of each line's numbers
-first-slots : (bad : Line → Bool) (test : ℕ → Bool) → ((k : ℕ) → k < 17 → bad (lineAt k) ≡ test k)
+first-slots : (bad : Line → Bool) (test : ℕ → Bool) → ((k : ℕ) → k < 21 → bad (lineAt k) ≡ test k)
     → firstBad test tagAt slots ≡ firstBad bad (λ l. l .tag) table
 unfolding tagAt
 first-slots bad test h =
     sym
     (ap (firstBad bad (λ (l : Line). l .tag)) (sym lines)
     ∙ first-map bad (λ (l : Line). l .tag) lineAt slots
-    ∙ first-same (λ (k : ℕ). bad (lineAt k)) test tagAt slots 0 (λ i l. h (getD slots i 0) (ltb-true _ 17 (all-at (λ (k : ℕ). ltb k 17) slots 0 slots-low i l))))
+    ∙ first-same (λ (k : ℕ). bad (lineAt k)) test tagAt slots 0 (λ i l. h (getD slots i 0) (ltb-true _ 21 (all-at (λ (k : ℕ). ltb k 21) slots 0 slots-low i l))))
 
 module _ (f : List ℕ) (big : Bool) (at c : ℕ) (typs counts starts lens : List ℕ) (r : Ready f big at c typs counts starts lens) where
-  lacks-at : (k : ℕ) → k < 17 → lacks (heldAt f big at c) (lineAt k) ≡ lacksAt starts k
+  present-at : (k : ℕ) → k < 21 → has (tagAt k) (heldAt f big at c) ≡ not (eqb (getD starts k 0) 0)
+  present-at k h = slot f big at c typs counts starts lens r k h .present
+
+  -- the families
+  pub strips-are : someAt stripSlots starts ≡ hasSome stripTags (heldAt f big at c)
+  unfolding someAt hasSome some tagAt lineAt table
+  strips-are = rw (present-at 5 (lit< tt), present-at 7 (lit< tt), present-at 8 (lit< tt))
+
+  pub tiles-are : someAt tileSlots starts ≡ tiled (heldAt f big at c)
+  unfolding someAt hasSome some tagAt lineAt table
+  tiles-are = rw (present-at 10 (lit< tt), present-at 11 (lit< tt), present-at 12 (lit< tt), present-at 13 (lit< tt))
+
+  lacks-at : (k : ℕ) → k < 21 → lacks (heldAt f big at c) (lineAt k) ≡ lacksAt (tiled (heldAt f big at c)) starts k
   unfolding lacks lacksAt tagAt
   lacks-at k h =
-      let s = slot f big at c typs counts starts lens r k h in
-      ap (λ (b : Bool). lineAt k .needed && b) (ap not (s .present) ∙ Bool·not-not (eqb (getD starts k 0) 0))
+      ap (λ (b : Bool). lineAt k .needed (tiled (heldAt f big at c)) && b) (ap not (present-at k h) ∙ Bool·not-not (eqb (getD starts k 0) 0))
 
-  pub nine-is : nineOf starts ≡ rule9 table (heldAt f big at c)
-  unfolding nineOf rule9
-  nine-is = first-slots (lacks (heldAt f big at c)) (lacksAt starts) lacks-at
+  pub nine-is : nineFrom 0 (tiled (heldAt f big at c)) starts ≡ rule9 table (heldAt f big at c)
+  unfolding nineFrom rule9
+  nine-is = first-slots (lacks (heldAt f big at c)) (lacksAt (tiled (heldAt f big at c)) starts) lacks-at
 
-  misfits-at : (k : ℕ) → k < 17 → misfits (heldAt f big at c) (lineAt k) ≡ misfitAt typs counts starts k
-  unfolding misfits misfitAt misfit fitsLine tagAt
+  misfits-at : (k : ℕ) → k < 21 → misfits (heldAt f big at c) (lineAt k) ≡ misfitAt typs counts starts k
+  unfolding misfits misfitAt misfit unlike fitsLine tagAt
   misfits-at k h =
       let s = slot f big at c typs counts starts lens r k h in
       rw (s .present, s .typ, s .count)

@@ -1,15 +1,19 @@
 -- The values that rules 11 and 12 ask for, as code tests and reads them. Assumes nothing.
-use Prim.Native.Nat.{ℕ, _+_, _-_, _*_, _≤_, _<_}
+use Prim.Native.Nat.{ℕ, suc, _+_, _-_, _*_, _≤_, _<_}
 use mathlib.Core.Path.{_≡_, refl, sym, ap, _∙_}
 use mathlib.Core.Bool.{Bool, true, false, _&&_, _||_, or-false, and-true, and-assoc}
 use mathlib.Core.List.{List, [], _∷_, map}
+use native.Mathlib.Nat.{le-refl, suc-mul, mul-le-mul, le-of-suc-le-suc, div-lt-iff-lt-mul}
 use native.Mathlib.Omega.{arith}
-use lib.Dec.{eqb, leb}
-use borrow.Author.Tests.{eqb-true, eqb-false, le-leb, leb-true, ne-eqb}
+use lib.Dec.{eqb}
+use mir.Syntax.{w64}
+use mir.Val.{Fits}
+use borrow.Author.Tests.{eqb-true, ne-eqb}
 use Rattle.paper.specs.Bytes.{num, build, elems}
 use Rattle.paper.specs.Layout.{sizeOf}
-use Rattle.paper.specs.Tests.{all, some, just, inRange, allows}
-use Rattle.paper.proofs.Laws.{and-eq, just-is}
+use Rattle.paper.specs.Tags.{roundedUp}
+use Rattle.paper.specs.Tests.{all, some, just, allows}
+use Rattle.paper.proofs.Laws.{just-is}
 use Rattle.paper.proofs.Loops.{all-step, build-end}
 use Rattle.tags.specs.Numbers.{Single}
 
@@ -65,3 +69,21 @@ module _ (s : List ℕ) (big : Bool) (k : ℕ) (ok : ℕ → Bool) where
       let e : i ≡ k = omega arith in
       let z : all ok (build shortAt i (k - i)) ≡ true = rw (e, build-end shortAt k) in
       sym (and-true b) ∙ ap (λ (x : Bool). b && x) (sym z) ∙ h
+
+-- ---- a quotient, rounded up
+
+pub rounded-low : (a b : ℕ) → 0 < b → roundedUp a b ≤ a
+unfolding roundedUp
+rounded-low a b h =
+    let m : a * 1 ≤ a * b = mul-le-mul {n₁ = a} {m₁ = 1} {n₂ = a} {m₂ = b} (le-refl a) h in
+    let e : suc a * b ≡ a * b + b = suc-mul a b in
+    let x : a + (b - 1) < suc a * b = omega arith in
+    le-of-suc-le-suc (div-lt-iff-lt-mul {k = b} {x = a + (b - 1)} {y = suc a} h .1 x)
+
+-- a product of two that are at most a million is a number of 8 bytes
+pub product-fits : {a b c d : ℕ} → a ≤ c → c ≤ 1000000 → b ≤ d → d ≤ 1000000 → Fits w64 (a * b)
+product-fits {a} {b} {c} {d} h k l m =
+    let x : a ≤ 1000000 = omega arith in
+    let y : b ≤ 1000000 = omega arith in
+    let z = mul-le-mul {n₁ = a} {m₁ = b} {n₂ = 1000000} {m₂ = 1000000} x y in
+    omega arith

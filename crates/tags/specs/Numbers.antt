@@ -1,5 +1,5 @@
 -- The values that rules 11 and 12 ask for, as the paper has them and as they stand in a file, and the two rules over these. Assumes nothing.
-use Prim.Native.Nat.{ℕ, _+_, _≤_}
+use Prim.Native.Nat.{ℕ, _+_, _*_, _≤_, _<_}
 use mathlib.Core.Path.{_≡_}
 use mathlib.Core.Bool.{Bool, true, cond, not, _&&_, _||_}
 use mathlib.Core.List.{List, [], _∷_}
@@ -12,13 +12,13 @@ use Rattle.paper.specs.declared.Outcome.the-variants.{Kept as kept, Broken as b
 use Rattle.paper.specs.Tests.{all, Range, between, just, allows}
 use Rattle.paper.specs.Layout.{sizeOf}
 use Rattle.paper.specs.Tag
-use Rattle.paper.specs.Tags.{more, Held, has, valueOf, valuesOf, stripCount}
+use Rattle.paper.specs.Tags.{more, sixteens, Held, has, valueOf, valuesOf, tiled, roundedUp}
 use Rattle.tags.specs.declared.Numbers.{Numbers}
 use Rattle.tags.specs.declared.Bits.{Bits}
 
 -- ---- of the paper
 
--- an absent planar counts as the 1 that is allowed
+-- what is not asked for counts as a number that is allowed
 unfoldable pub numbersOf : Bool → List Held → Numbers
 numbersOf big hs =
     record {
@@ -27,8 +27,10 @@ numbersOf big hs =
       compression = valueOf big Tag.compression hs;
       photometric = valueOf big Tag.photometric hs;
       samples = valueOf big Tag.samples hs;
-      rows = valueOf big Tag.rowsPerStrip hs;
+      rows = cond (not (tiled hs)) (valueOf big Tag.rowsPerStrip hs) 1;
       planar = cond (has Tag.planar hs) (valueOf big Tag.planar hs) 1;
+      tilewidth = cond (tiled hs) (valueOf big Tag.tileWidth hs) 16;
+      tilelength = cond (tiled hs) (valueOf big Tag.tileLength hs) 16;
     }
 
 abbrev pub depths : List Range
@@ -54,34 +56,51 @@ shortIn big f start = num big 2 (run f start 2) 0
 unfoldable pub numberIn : Bool → List ℕ → ℕ → ℕ → ℕ
 numberIn big f typ start = num big (sizeOf typ) (run f start (sizeOf typ)) 0
 
-unfoldable pub planarIn : Bool → List ℕ → ℕ → ℕ
-planarIn big f start = cond (eqb start 0) 1 (shortIn big f start)
+-- of a tag that is asked for, and else `other`
+unfoldable pub numberIf : Bool → Bool → List ℕ → ℕ → ℕ → ℕ → ℕ
+numberIf asked big f typ start other = cond asked (numberIn big f typ start) other
 
 -- such a value lies in a file of n bytes
 pub record Single (n typ start : ℕ) : Type 0 where
   pub kind : eqb typ 3 || eqb typ 4 ≡ true
   pub within : start + sizeOf typ ≤ n
 
-unfoldable pub numbersIn : Bool → List ℕ → List ℕ → List ℕ → Numbers
-numbersIn big f typs starts =
+-- where it is asked for
+abbrev pub SingleIf : Bool → ℕ → ℕ → ℕ → Type 0
+SingleIf asked n typ start = asked ≡ true → Single n typ start
+
+unfoldable pub numbersIn : Bool → List ℕ → Bool → List ℕ → List ℕ → Numbers
+numbersIn big f tiled typs starts =
     record {
       width = numberIn big f (getD typs 0 0) (getD starts 0 0);
       length = numberIn big f (getD typs 1 0) (getD starts 1 0);
       compression = shortIn big f (getD starts 3 0);
       photometric = shortIn big f (getD starts 4 0);
       samples = shortIn big f (getD starts 6 0);
-      rows = numberIn big f (getD typs 7 0) (getD starts 7 0);
-      planar = planarIn big f (getD starts 9 0);
+      rows = numberIf (not tiled) big f (getD typs 7 0) (getD starts 7 0) 1;
+      planar = numberIf (not (eqb (getD starts 9 0) 0)) big f (getD typs 9 0) (getD starts 9 0) 1;
+      tilewidth = numberIf tiled big f (getD typs 10 0) (getD starts 10 0) 16;
+      tilelength = numberIf tiled big f (getD typs 11 0) (getD starts 11 0) 16;
     }
 
-pub record Readable (n : ℕ) (typs starts : List ℕ) : Type 0 where
+pub record Readable (n : ℕ) (tiled : Bool) (typs starts : List ℕ) : Type 0 where
   pub width : Single n (getD typs 0 0) (getD starts 0 0)
   pub length : Single n (getD typs 1 0) (getD starts 1 0)
   pub compression : getD starts 3 0 + 2 ≤ n
   pub photometric : getD starts 4 0 + 2 ≤ n
   pub samples : getD starts 6 0 + 2 ≤ n
-  pub rows : Single n (getD typs 7 0) (getD starts 7 0)
-  pub planar : getD starts 9 0 + 2 ≤ n
+  pub rows : SingleIf (not tiled) n (getD typs 7 0) (getD starts 7 0)
+  pub planar : SingleIf (not (eqb (getD starts 9 0) 0)) n (getD typs 9 0) (getD starts 9 0)
+  pub tilewidth : SingleIf tiled n (getD typs 10 0) (getD starts 10 0)
+  pub tilelength : SingleIf tiled n (getD typs 11 0) (getD starts 11 0)
+
+-- each number that is counted with is one of 4 bytes
+pub record Low (n : Numbers) : Type 0 where
+  pub width : n .width < 4294967296
+  pub length : n .length < 4294967296
+  pub rows : n .rows < 4294967296
+  pub tilewidth : n .tilewidth < 4294967296
+  pub tilelength : n .tilelength < 4294967296
 
 -- ---- rules 11 and 12
 
@@ -90,6 +109,11 @@ sides = between 1 1000000 ∷ []
 
 abbrev pub codings : List Range
 codings = just 1 ∷ just 2 ∷ just 32773 ∷ []
+
+-- the numbers of a picture of strips say nothing of tiles
+pub record Untiled (n : Numbers) : Type 0 where
+  pub width : n .tilewidth ≡ 16
+  pub length : n .tilelength ≡ 16
 
 unfoldable pub elevenOf : Numbers → Bool → Outcome
 elevenOf n depths =
@@ -100,14 +124,29 @@ elevenOf n depths =
     (cond (not (allows (between 0 3 ∷ []) (n .photometric))) (broken Tag.photometric)
     (cond (not (allows (between 1 8 ∷ []) (n .samples))) (broken Tag.samples)
     (cond (not (allows (between 1 more ∷ []) (n .rows))) (broken Tag.rowsPerStrip)
-    (cond (not (allows (just 1 ∷ []) (n .planar))) (broken Tag.planar) kept)))))))
+    (cond (not (allows (just 1 ∷ []) (n .planar))) (broken Tag.planar)
+    (cond (not (sixteens (n .tilewidth))) (broken Tag.tileWidth)
+    (cond (not (sixteens (n .tilelength))) (broken Tag.tileLength) kept)))))))))
 
--- with the counts of 258, 273 and 279
-unfoldable pub twelveOf : Numbers → Bits → ℕ → ℕ → ℕ → Outcome
-twelveOf n bits depths offsets sizes =
+-- what rule 11 leaves to be counted with
+pub record Countable (n : Numbers) : Type 0 where
+  pub low : Low n
+  pub width : n .width ≤ 1000000
+  pub length : n .length ≤ 1000000
+  pub rows : 0 < n .rows
+  pub tilewidth : 0 < n .tilewidth
+  pub tilelength : 0 < n .tilelength
+
+unfoldable pub countOfPieces : Numbers → Bool → ℕ
+countOfPieces n tiled =
+    cond tiled (roundedUp (n .width) (n .tilewidth) * roundedUp (n .length) (n .tilelength)) (roundedUp (n .length) (n .rows))
+
+-- with the counts of 258, of the offsets and of the byte counts
+unfoldable pub twelveOf : Numbers → Bits → Bool → ℕ → ℕ → ℕ → Outcome
+twelveOf n bits tiled depths offsets sizes =
     firstOf
     (breaks (not (eqb depths (n .samples)) || not (bits .same)) Tag.bits
     ∷ breaks ((eqb (n .compression) 2 || eqb (n .compression) 32773) && (not (eqb (bits .first) 1) || not (eqb (n .samples) 1))) Tag.compression
-    ∷ breaks (not (eqb offsets (stripCount (n .length) (n .rows)))) Tag.stripOffsets
-    ∷ breaks (not (eqb sizes (stripCount (n .length) (n .rows)))) Tag.stripByteCounts
+    ∷ breaks (not (eqb offsets (countOfPieces n tiled))) (cond tiled Tag.tileOffsets Tag.stripOffsets)
+    ∷ breaks (not (eqb sizes (countOfPieces n tiled))) (cond tiled Tag.tileByteCounts Tag.stripByteCounts)
     ∷ [])

@@ -1,15 +1,15 @@
--- What rules 9 to 12 answer for a file whose directory keeps rules 1 to 8: the first broken rule with its place, or the picture's width and
--- length; and what is known of the columns that a pass over the directory left. Assumes nothing.
+-- What rules 27 and 9 to 12 answer for a file whose directory keeps rules 1 to 8: the first broken rule with its place, or the picture's width and
+-- length and whether it is in tiles; and what is known of the columns that a pass over the directory left. Assumes nothing.
 use Prim.Native.Nat.{ℕ, _+_, _≤_, _<_}
 use mathlib.Core.Path.{_≡_}
-use mathlib.Core.Bool.{Bool, cond}
+use mathlib.Core.Bool.{Bool, cond, _&&_}
 use mathlib.Core.List.{List, [], _∷_, map}
 use lib.ListN.{length}
 use Rattle.paper.specs.Bytes.{run}
 use Rattle.paper.specs.Outcome.{Rule, _▸_, first}
 use Rattle.paper.specs.Layout.{dirLen, entries, rule7}
 use Rattle.paper.specs.Tag
-use Rattle.paper.specs.Tags.{table, Held, hold, valueOf, rule9, rule10, rule11, rule12}
+use Rattle.paper.specs.Tags.{table, Held, hold, valueOf, tiled, rule27, rule9, rule10, rule11, rule12}
 use Rattle.paper.specs.Judge.{View}
 use Rattle.paper.specs.Calls.{accepts}
 use Rattle.paper.specs.declared.Entry.{Entry}
@@ -29,22 +29,24 @@ unfoldable pub viewOf : List ℕ → Bool → ℕ → ℕ → View
 viewOf f big at c =
     record { table = table; head = record { size = length f; big = big; at = at }; count = c; held = heldAt f big at c }
 
--- rules 9 to 12
+-- rules 27 and 9 to 12
 unfoldable pub tableRules : View → List Rule
 tableRules v =
-    9 ▸ rule9 (v .table) (v .held)
+    27 ▸ rule27 (v .held)
+    ∷ 9 ▸ rule9 (v .table) (v .held)
     ∷ 10 ▸ rule10 (v .table) (v .held)
     ∷ 11 ▸ rule11 (v .table) (v .head .big) (v .held)
     ∷ 12 ▸ rule12 (v .head .big) (v .held)
     ∷ []
 
--- width and length go with verdict 0 only
+-- what is told of the picture goes with verdict 0 only
 unfoldable pub taggedBy : Verdict → View → Tagged
 taggedBy w v =
     record {
       verdict = w;
       width = cond (accepts w) (valueOf (v .head .big) Tag.width (v .held)) 0;
       length = cond (accepts w) (valueOf (v .head .big) Tag.length (v .held)) 0;
+      tiled = accepts w && tiled (v .held);
     }
 
 unfoldable pub taggedOf : View → Tagged
@@ -63,8 +65,10 @@ pub record Ready (f : List ℕ) (big : Bool) (at c : ℕ) (typs counts starts le
   pub lens-are : lens ≡ lensOf c (entriesAt f big at c)
   pub seven : rule7 (length f) (entriesAt f big at c) ≡ kept
 
--- the same where rules 9 and 10 are kept
-pub record Fitting (f : List ℕ) (big : Bool) (at c : ℕ) (typs counts starts lens : List ℕ) : Type 0 where
+-- the same where rules 27, 9 and 10 are kept, and the picture is in tiles or not
+pub record Fitting (f : List ℕ) (big : Bool) (at c : ℕ) (t : Bool) (typs counts starts lens : List ℕ) : Type 0 where
   pub ready : Ready f big at c typs counts starts lens
+  pub tiled-is : t ≡ tiled (heldAt f big at c)
+  pub twenty-seven : rule27 (heldAt f big at c) ≡ kept
   pub nine : rule9 table (heldAt f big at c) ≡ kept
   pub ten : rule10 table (heldAt f big at c) ≡ kept

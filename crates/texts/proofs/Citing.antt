@@ -65,7 +65,7 @@ module _ (f : List ℕ) (zero : verdictOf f .number ≡ 0) (k : ℕ) where
 
   characters : Stands f (view f .held) Tag.characters
   unfolding tagAt lineAt table
-  characters = stands f zero 15 (lit< tt)
+  characters = stands f zero 19 (lit< tt)
 
   chars-length : length (runsOf (view f) .characters) ≡ find Tag.characters (view f .held) .entry .len
   unfolding runsOf

@@ -43,7 +43,7 @@ pub record Lists (f : List ℕ) (e : Examined) : Type 0 where
 module _ (f : List ℕ) (zero : verdictOf f .number ≡ 0) where
   directory : Stands f (view f .held) Tag.keyDirectory
   unfolding tagAt lineAt table
-  directory = stands f zero 13 (lit< tt)
+  directory = stands f zero 17 (lit< tt)
 
   head-is : Headed (view f .head .big) (bytesOf Tag.keyDirectory (view f .held))
   unfolding rule15 short keyCount runsOf

@@ -46,11 +46,11 @@ module _ (f : List ℕ) (zero : verdictOf f .number ≡ 0) (m : ℕ) where
 
   has-is : has Tag.metadata (view f .held) ≡ not (eqb (find Tag.metadata (view f .held) .entry .start) 0)
   unfolding tagAt lineAt table
-  has-is = present f zero 16 (lit< tt)
+  has-is = present f zero 20 (lit< tt)
 
   stands-in : Stands f (view f .held) Tag.metadata
   unfolding tagAt lineAt table
-  stands-in = stands f zero 16 (lit< tt)
+  stands-in = stands f zero 20 (lit< tt)
 
   in-view : Told f (examinedIn (view f)) m
   unfolding examinedIn judgedIn runOf textIn

@@ -1,11 +1,14 @@
 //! Writes the files that the program `vectors` judges, with what it must print:
 //! data DIR [SEED] fills DIR/data, DIR/args and DIR/stdout. There is file A with
-//! its marked changes, and for each clause of rules 1 to 22 the smallest
-//! targeted file beyond its boundary and within it, in both byte orders; files
-//! of other producers, which `field` has, are taken in as they are.
+//! its marked changes, a file of tiles with changes of it, and for each clause of
+//! rules 1 to 22 and 27 the smallest targeted file beyond its boundary and within
+//! it, in both byte orders; files of other producers, which `field` has, are
+//! taken in as they are.
 
+use outside::generator::plan::{Laid, Plan, Tag};
 use outside::generator::{random, targeted, Call};
-use outside::reader::{judge, key_rows, Row};
+use outside::reader::tables::Family;
+use outside::reader::{judge, key_rows, Order, Row};
 use std::collections::BTreeMap;
 use std::fmt::Write;
 use std::path::Path;
@@ -20,6 +23,7 @@ fn main() {
     let folder = Path::new(&folder);
     let mut files = clauses(seed);
     files.extend(marked());
+    files.extend(tiled());
     files.extend(mixed(seed));
     files.extend(real(&Path::new(env!("CARGO_MANIFEST_DIR")).join("field")));
     write(folder, &files).expect("the files are written");
@@ -51,6 +55,76 @@ fn marked() -> BTreeMap<String, Vec<u8>> {
         files.insert(format!("A-{name}"), file);
     }
     files.insert("A-empty".into(), Vec::new());
+    files
+}
+
+/// Sets tiles of six bytes each, and both tags that tell of them.
+fn set_tiles(plan: &mut Plan, count: usize) {
+    plan.set_pieces(Family::Tiles, &vec![6; count], (true, false));
+}
+
+/// An accepted picture of 40 by 20 in tiles of 16 by 16: three across and two
+/// down.
+fn tiles(order: Order) -> Plan {
+    let mut plan = Plan::new(order);
+    let numbers =
+        [(256, 40), (257, 20), (258, 8), (259, 1), (262, 1), (277, 1), (322, 16), (323, 16)];
+    numbers.iter().for_each(|&(tag, number)| plan.set(Tag::shorts(tag, &[number])));
+    plan.set(Tag::doubles(33550, &[0.5, 0.5, 0.0]));
+    plan.set(Tag::doubles(33922, &[0.0, 0.0, 0.0, 500_000.0, 4_000_000.0, 0.0]));
+    let keys = [1, 1, 0, 3, 1024, 0, 1, 1, 1025, 0, 1, 1, 3072, 0, 1, 32633];
+    plan.set(Tag::shorts(34735, &keys));
+    set_tiles(&mut plan, 6);
+    plan
+}
+
+/// Changes of the tags of that file.
+const TILED: [(&str, fn(&mut Plan)); 9] = [
+    ("as-it-is", |_| ()),
+    ("one-tile-of-the-largest-size", |plan| {
+        plan.set(Tag::longs(322, &[4_294_967_280]));
+        plan.set(Tag::longs(323, &[4_294_967_280]));
+        set_tiles(plan, 1);
+    }),
+    ("byte-counts-LONG", |plan| plan.set(Tag::longs(325, &[6; 6]))),
+    ("27-both-by-278", |plan| plan.set(Tag::shorts(278, &[16]))),
+    ("27-both-by-273-of-no-type", |plan| plan.set(Tag::raw(273, 13, 0, [0; 4]))),
+    ("27-neither", |plan| plan.tags.retain(|known| !(322..=325).contains(&known.tag))),
+    ("27-neither--256-absent", |plan| {
+        plan.tags.retain(|known| known.tag != 256 && !(322..=325).contains(&known.tag));
+    }),
+    ("9-277--323-absent", |plan| plan.tags.retain(|known| ![277, 323].contains(&known.tag))),
+    ("12-324-one-quotient", |plan| set_tiles(plan, 4)),
+];
+
+/// Changes of single bytes of that file.
+const TILED_BYTES: [(&str, fn(&mut Laid)); 3] = [
+    ("8-neither", |laid| {
+        // no rule asks for 318 to 321
+        for (tag, other) in [(322, 318), (323, 319), (324, 320), (325, 321)] {
+            laid.put_short(laid.spot(tag).entry, other);
+        }
+        laid.put_long(laid.directory + 2 + 12 * laid.spots.len(), 8);
+    }),
+    ("13-past-n", |laid| laid.put_long(laid.spot(324).value + 20, laid.n() as u32 - 5)),
+    ("14-directory", |laid| laid.put_long(laid.spot(324).value + 8, laid.directory as u32)),
+];
+
+/// The file of tiles and its changes, in both byte orders.
+fn tiled() -> BTreeMap<String, Vec<u8>> {
+    let mut files: BTreeMap<String, Vec<u8>> = BTreeMap::new();
+    for (order, mark) in [(Order::Little, "II"), (Order::Big, "MM")] {
+        for (name, change) in TILED {
+            let mut plan = tiles(order);
+            change(&mut plan);
+            files.insert(format!("tiled-{name}-{mark}"), plan.lay().bytes);
+        }
+        for (name, change) in TILED_BYTES {
+            let mut laid = tiles(order).lay();
+            change(&mut laid);
+            files.insert(format!("tiled-{name}-{mark}"), laid.bytes);
+        }
+    }
     files
 }
 
@@ -96,7 +170,8 @@ fn real(folder: &Path) -> BTreeMap<String, Vec<u8>> {
 /// What the program prints for one file.
 fn lines(name: &str, file: &[u8]) -> String {
     let judged = judge(file);
-    let mut text = format!("{name} verdict {} place {}\n", judged.verdict.number, judged.verdict.place);
+    let mut text =
+        format!("{name} verdict {} place {}\n", judged.verdict.number, judged.verdict.place);
     if judged.verdict.number == 0 {
         let mut rows = [Row { key: 0, kind: 0, first: 0, length: 0 }; 256];
         let (_, keys) = key_rows(file, &mut rows);

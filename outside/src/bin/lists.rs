@@ -5,7 +5,8 @@
 //! number of parts of the list, first byte and end of each; then the bytes.
 
 use outside::generator::{sample, targeted, Call};
-use outside::reader::{judge, reading_list};
+use outside::reader::{judge, judgements, reading_list};
+use std::collections::BTreeMap;
 use std::io::Write;
 use std::process::ExitCode;
 
@@ -20,16 +21,16 @@ fn main() -> ExitCode {
     };
     let plain = targeted(seed).into_iter().filter(|case| matches!(case.call, Call::Judge));
     let mixed = (0..MIXED).map(|number| sample(seed, number).file);
-    let mut seen = [0; 23];
+    let mut seen: BTreeMap<u32, u64> = judgements().map(|number| (number, 0)).collect();
     let mut bytes = Vec::new();
     for file in mixed.chain(plain.map(|case| case.file)) {
-        let count = &mut seen[judge(&file).verdict.number as usize];
+        let count = seen.entry(judge(&file).verdict.number).or_insert(0);
         *count += 1;
         if *count <= most {
             bytes.extend(record(&file));
         }
     }
-    assert!(seen.iter().all(|count| *count > 0), "a verdict without a file: {seen:?}");
+    assert!(seen.values().all(|count| *count > 0), "a verdict without a file: {seen:?}");
     match std::io::stdout().write_all(&bytes) {
         Ok(()) => ExitCode::SUCCESS,
         Err(_) => ExitCode::FAILURE,

@@ -3,13 +3,14 @@
 //!   speed write FOLDER           the files, as frames: a length and the bytes
 //!   speed time FRAMES            the best time of many passes, and the ratio
 //!   speed run CALL PASSES FRAMES one call only, for counting instructions
-//!   speed fetch STRIPS FRAMES    the compiled judge once on a file of so many
-//!                                strips; prints where their words stand
+//!   speed fetch PIECES FRAMES    the compiled judge once on a file of so many
+//!                                pieces; prints where their words stand
 //!
 //! All but `write` need the static library linked. outside/speed runs it.
 
-use outside::generator::large::many_strips;
+use outside::generator::large::many_pieces;
 use outside::generator::sample;
+use outside::reader::tables::BOTH;
 use outside::reader::Order;
 use std::path::Path;
 use std::process::ExitCode;
@@ -27,8 +28,8 @@ fn main() -> ExitCode {
             Ok(passes) => measure::run(call, passes, &load(path)),
             Err(_) => return usage(),
         },
-        ["fetch", strips, path] => match strips.parse() {
-            Ok(strips) => measure::fetch(strips, &load(path)),
+        ["fetch", pieces, path] => match pieces.parse() {
+            Ok(pieces) => measure::fetch(pieces, &load(path)),
             Err(_) => return usage(),
         },
         _ => return usage(),
@@ -38,23 +39,27 @@ fn main() -> ExitCode {
 
 fn usage() -> ExitCode {
     eprintln!("speed write FOLDER\nspeed time FRAMES\nspeed run CALL PASSES FRAMES");
-    eprintln!("speed fetch STRIPS FRAMES");
+    eprintln!("speed fetch PIECES FRAMES");
     ExitCode::FAILURE
 }
 
-/// The bytes of each strip of the files of many strips.
-const STRIP: usize = 3;
+/// The bytes of each piece of the files of many pieces.
+const PIECE: usize = 3;
 
 /// The mix with every second file damaged, the same of each byte order alone,
-/// and one file each of many strips.
+/// and one file each of many strips and of many tiles.
 fn write_all(folder: &Path) {
     let mix = || (0..).map(|number| sample(SEED, number).file);
     let of_order = |mark: u8| mix().filter(move |file| file.first() == Some(&mark));
     write(folder, "mixed", mix().take(FILES));
     write(folder, "little", of_order(0x49).take(FILES));
     write(folder, "big", of_order(0x4D).take(FILES));
-    for (name, strips) in [("strips-40000", 40_000), ("strips-1000000", 1_000_000)] {
-        write(folder, name, [many_strips(Order::Little, strips, STRIP as u32)].into_iter());
+    for &family in BOTH {
+        for pieces in [40_000, 1_000_000] {
+            let name = format!("{}s-{pieces}", family.word());
+            let file = many_pieces(Order::Little, family, pieces, PIECE as u32);
+            write(folder, &name, [file].into_iter());
+        }
     }
 }
 
@@ -160,11 +165,11 @@ mod measure {
         println!("  ratio of the best: ground {:.2}, judge {:.2}", ratio(0), ratio(2));
     }
 
-    /// Offsets and byte counts stand right before the strips, as LONGs.
-    pub fn fetch(strips: usize, files: &[Vec<u8>]) {
-        let words = files[0].len() - (super::STRIP + 8) * strips;
+    /// Offsets and byte counts stand right before the pieces, as LONGs.
+    pub fn fetch(pieces: usize, files: &[Vec<u8>]) {
+        let words = files[0].len() - (super::PIECE + 8) * pieces;
         let from = files[0].as_ptr() as usize + words;
-        println!("{from:08x} {:08x}", from + 8 * strips);
+        println!("{from:08x} {:08x}", from + 8 * pieces);
         assert_eq!(verdict_of(black_box(&files[0])), (0, 0));
     }
 

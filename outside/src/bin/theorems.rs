@@ -5,8 +5,8 @@
 
 use outside::generator::{random, targeted, Call, Case};
 use outside::reader::{
-    citation, judge, key_block, key_rows, metadata, read_block, reading_list, Block, Cited, Georeference,
-    Judged, Row, Text, Verdict,
+    citation, judge, key_block, key_rows, metadata, read_block, reading_list, Block, Cited,
+    Georeference, Judged, Row, Text, Verdict,
 };
 use std::collections::BTreeMap;
 use std::fmt::Write;
@@ -57,7 +57,7 @@ use lib.ListN.{replicate}
 use lib.Ieee as Ieee
 use lib.Ieee.{Float, binary64}
 use Rattle.paper.specs.Outcome.{verdict}
-use Rattle.paper.specs.Strips.{part}
+use Rattle.paper.specs.Pieces.{part}
 use Rattle.paper.specs.Judge.{readingList}
 use Rattle.paper.specs.Calls.{judgedOf, rowsOf, rowsLeft, citedOf, textOf, readBack}
 use Rattle.paper.specs.Block.{blockOf, blockLeft}
@@ -100,7 +100,11 @@ impl Page {
             Call::ReadBlock([directory, doubles, characters]) => {
                 let (verdict, keys) = read_block(directory, doubles, characters);
                 let runs = [directory, doubles, characters].map(|run| format!("({})", bytes(run)));
-                self.theorem(&format!("readBack {}", runs.join(" ")), &counted(verdict, keys), &why);
+                self.theorem(
+                    &format!("readBack {}", runs.join(" ")),
+                    &counted(verdict, keys),
+                    &why,
+                );
             }
         }
     }
@@ -111,7 +115,8 @@ impl Page {
         let name = self.named(file, why);
         self.theorem(&format!("judgedOf {name}"), &judgement(&judged), "");
         let parts = reading_list(file).into_iter();
-        let parts = parts.map(|range| format!("part {} {} ∷ ", range.start, range.end - range.start));
+        let parts =
+            parts.map(|range| format!("part {} {} ∷ ", range.start, range.end - range.start));
         self.theorem(&format!("readingList {name}"), &(parts.collect::<String>() + "[]"), "");
         if judged.verdict.number == 0 {
             self.more(file, &name, judged.keys as usize);
@@ -145,7 +150,11 @@ impl Page {
         for row in &rows {
             let _ = write!(list, "row {} {} {} {} ∷ ", row.key, row.kind, row.first, row.length);
         }
-        self.theorem(&format!("rowsLeft {name} (replicate {lent} (row 9 9 9 9))"), &(list + "[]"), "");
+        self.theorem(
+            &format!("rowsLeft {name} (replicate {lent} (row 9 9 9 9))"),
+            &(list + "[]"),
+            "",
+        );
     }
 
     fn cited(&mut self, file: &[u8], key: u32, why: &str) {
@@ -155,7 +164,8 @@ impl Page {
 
     fn cited_of(&mut self, file: &[u8], name: &str, key: u32) {
         let Cited { verdict, start, length } = citation(file, key);
-        let answer = format!("record {{ verdict = {}; start = {start}; len = {length} }}", number(verdict));
+        let answer =
+            format!("record {{ verdict = {}; start = {start}; len = {length} }}", number(verdict));
         self.theorem(&format!("citedOf {name} {key}"), &answer, "");
     }
 
@@ -166,7 +176,8 @@ impl Page {
 
     fn block_of(&mut self, file: &[u8], name: &str, room: usize) {
         let mut out = vec![170u8; room];
-        let Block { verdict, lengths: [directory, doubles, characters] } = key_block(file, &mut out);
+        let Block { verdict, lengths: [directory, doubles, characters] } =
+            key_block(file, &mut out);
         let answer = format!(
             "record {{ verdict = {}; directory = {directory}; doubles = {doubles}; characters = {characters} }}",
             number(verdict)
@@ -179,7 +190,8 @@ impl Page {
     fn named(&mut self, file: &[u8], why: &str) -> String {
         self.number += 1;
         let name = format!("f{}", self.number);
-        let _ = write!(self.text, "\n-- {why}\nunfoldable {name} : List ℕ\n{name} = {}\n", bytes(file));
+        let _ =
+            write!(self.text, "\n-- {why}\nunfoldable {name} : List ℕ\n{name} = {}\n", bytes(file));
         name
     }
 
@@ -219,7 +231,10 @@ fn counted(verdict: Verdict, keys: u32) -> String {
 
 fn text(text: &Text) -> String {
     let Text { verdict, from, start, length } = text;
-    format!("record {{ verdict = {}; from = {from}; start = {start}; len = {length} }}", number(*verdict))
+    format!(
+        "record {{ verdict = {}; from = {from}; start = {start}; len = {length} }}",
+        number(*verdict)
+    )
 }
 
 fn judgement(judged: &Judged) -> String {

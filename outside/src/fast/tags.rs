@@ -1,4 +1,5 @@
-//! The entries of the directory and the tags of the table: rules 6 to 12.
+//! The entries of the directory and the tags of the table: rules 6 to 12 and
+//! 27.
 
 use super::number::{long_at, short, short_at};
 use super::{refuse, Refusal};
@@ -21,46 +22,69 @@ pub mod slot {
     pub const ROWS_PER_STRIP: usize = 7;
     pub const STRIP_BYTE_COUNTS: usize = 8;
     pub const PLANAR: usize = 9;
-    pub const SCALE: usize = 10;
-    pub const TIEPOINT: usize = 11;
-    pub const MATRIX: usize = 12;
-    pub const KEY_DIRECTORY: usize = 13;
-    pub const DOUBLES: usize = 14;
-    pub const CHARACTERS: usize = 15;
-    pub const METADATA: usize = 16;
-    pub const ALL: usize = 17;
+    pub const TILE_WIDTH: usize = 10;
+    pub const TILE_LENGTH: usize = 11;
+    pub const TILE_OFFSETS: usize = 12;
+    pub const TILE_BYTE_COUNTS: usize = 13;
+    pub const SCALE: usize = 14;
+    pub const TIEPOINT: usize = 15;
+    pub const MATRIX: usize = 16;
+    pub const KEY_DIRECTORY: usize = 17;
+    pub const DOUBLES: usize = 18;
+    pub const CHARACTERS: usize = 19;
+    pub const METADATA: usize = 20;
+    pub const ALL: usize = 21;
 }
 
 use slot::*;
 
 /// The tags of the table, and one more that no entry has.
 const TAGS: [u32; ALL + 1] = [
-    256, 257, 258, 259, 262, 273, 277, 278, 279, 284, 33550, 33922, 34264, 34735, 34736, 34737,
-    50909, 65_536,
+    256, 257, 258, 259, 262, 273, 277, 278, 279, 284, 322, 323, 324, 325, 33550, 33922, 34264,
+    34735, 34736, 34737, 50909, 65_536,
 ];
 
-const SLOTS: [usize; 10] = [
-    WIDTH,
-    LENGTH,
-    BITS,
-    COMPRESSION,
-    PHOTOMETRIC,
-    STRIP_OFFSETS,
-    SAMPLES,
-    ROWS_PER_STRIP,
-    STRIP_BYTE_COUNTS,
-    KEY_DIRECTORY,
-];
+/// The tags from 256 to 325 have their slots here, or `ALL` for none; those
+/// from `SCALE` on are looked for in their order.
+const FIRST: u32 = 256;
+static NEAR: [u8; 70] = {
+    let mut near = [ALL as u8; 70];
+    let mut slot = 0;
+    while slot < SCALE {
+        near[(TAGS[slot] - FIRST) as usize] = slot as u8;
+        slot += 1;
+    }
+    near
+};
 
-/// The needed tags as a set of bits.
-const NEEDED: u32 = {
+/// Slots as a set of bits.
+const fn set(slots: &[usize]) -> u32 {
     let (mut set, mut at) = (0, 0);
-    while at < SLOTS.len() {
-        set |= 1 << SLOTS[at];
+    while at < slots.len() {
+        set |= 1 << slots[at];
         at += 1;
     }
     set
-};
+}
+
+/// The tags of the two families, and those that are needed in both.
+const STRIPS: u32 = set(&[STRIP_OFFSETS, ROWS_PER_STRIP, STRIP_BYTE_COUNTS]);
+const TILES: u32 = set(&[TILE_WIDTH, TILE_LENGTH, TILE_OFFSETS, TILE_BYTE_COUNTS]);
+const NEEDED: u32 = set(&[WIDTH, LENGTH, BITS, COMPRESSION, PHOTOMETRIC, SAMPLES, KEY_DIRECTORY]);
+
+/// Rules 27 and 9 where neither family is there whole and alone, or another
+/// needed tag is absent.
+#[cold]
+#[inline(never)]
+fn rule27or9<T>(present: u32) -> Result<T, Refusal> {
+    let family = match (present & STRIPS != 0, present & TILES != 0) {
+        (true, false) => STRIPS,
+        (false, true) => TILES,
+        _ => return refuse(27, 0),
+    };
+    let missing = (NEEDED | family) & !present;
+    refuse(9, TAGS[missing.trailing_zeros() as usize])
+}
 
 /// An entry of the table as the pass over the directory leaves it.
 #[derive(Clone, Copy, Default)]
@@ -154,31 +178,42 @@ impl Tags {
         Tags { entries: [Entry::default(); ALL], present: 0, parts, used: 1, width: 0, length: 0 }
     }
 
-    /// Rules 6 to 12.
+    /// Rules 6 to 9 and 27; whether the pieces are tiles.
     #[inline(always)]
-    pub fn rules6to12<const BIG: bool>(
+    pub fn rules6to9<const BIG: bool>(
         &mut self,
-        file: &[u8],
+        n: u64,
         entries: &[[u8; 12]],
         next: &[u8; 4],
-    ) -> Result<(), Refusal> {
-        self.rules6and7::<BIG>(file.len() as u64, entries)?;
+    ) -> Result<bool, Refusal> {
+        self.rules6and7::<BIG>(n, entries)?;
         if *next != [0; 4] {
             return refuse(8, 0);
         }
-        let missing = NEEDED & !self.present;
-        if missing != 0 {
-            return refuse(9, TAGS[missing.trailing_zeros() as usize]);
+        const IN_STRIPS: u32 = NEEDED | STRIPS;
+        const IN_TILES: u32 = NEEDED | TILES;
+        match self.present & (IN_STRIPS | IN_TILES) {
+            IN_STRIPS => Ok(false),
+            IN_TILES => Ok(true),
+            _ => rule27or9(self.present),
         }
-        self.rule10()?;
-        self.rule11::<BIG>(file)?;
-        self.rule12::<BIG>(file)
+    }
+
+    /// Rules 10 to 12.
+    #[inline(always)]
+    pub fn rules10to12<const BIG: bool, const TILED: bool>(
+        &mut self,
+        file: &[u8],
+    ) -> Result<(), Refusal> {
+        self.rule10::<TILED>()?;
+        self.rule11::<BIG, TILED>(file)?;
+        self.rule12::<BIG, TILED>(file)
     }
 
     /// Rules 6 and 7; what the entries of the table say is kept.
     #[inline(always)]
     fn rules6and7<const BIG: bool>(&mut self, n: u64, entries: &[[u8; 12]]) -> Result<(), Refusal> {
-        let (mut last, mut slot, mut used, mut present) = (-1, 0, 1, 0);
+        let (mut last, mut far, mut used, mut present) = (-1, SCALE, 1, 0);
         let mut here = self.parts[0].0 + 10;
         let mut rest = entries.iter();
         while let Some(entry) = rest.next() {
@@ -187,11 +222,21 @@ impl Tags {
                 return refuse(6, tag);
             }
             last = tag as i32;
-            // tags ascend, and so does the place in the table
-            while TAGS[slot] < tag {
-                slot += 1;
-            }
-            let known = TAGS[slot] == tag;
+            let slot = match NEAR.get(tag.wrapping_sub(FIRST) as usize) {
+                Some(&near) => usize::from(near),
+                None => {
+                    // tags ascend, and so does the place in the table
+                    while TAGS[far] < tag {
+                        far += 1;
+                    }
+                    if TAGS[far] == tag {
+                        far
+                    } else {
+                        ALL
+                    }
+                }
+            };
+            let known = slot < ALL;
             let kind = u32::from(short_at::<BIG, 12>(entry, 2));
             let count = long_at::<BIG, 12>(entry, 4);
             let field = long_at::<BIG, 12>(entry, 8);
@@ -216,8 +261,8 @@ impl Tags {
 
     /// Rule 10, lowest tag first. By rule 7 no known type has count 0.
     #[inline(always)]
-    fn rule10(&self) -> Result<(), Refusal> {
-        let fault = match self.fault_of_picture() {
+    fn rule10<const TILED: bool>(&self) -> Result<(), Refusal> {
+        let fault = match self.fault_of_picture::<TILED>() {
             0 => self.fault_of_rest(),
             tag => tag,
         };
@@ -227,9 +272,9 @@ impl Tags {
         Ok(())
     }
 
-    /// The lowest tag from 256 to 279 that breaks rule 10, or 0.
+    /// The lowest tag from 256 to 325 that breaks rule 10, or 0.
     #[inline(always)]
-    fn fault_of_picture(&self) -> u32 {
+    fn fault_of_picture<const TILED: bool>(&self) -> u32 {
         let e = &self.entries;
         let one = |slot: usize| e[slot].is_number() && e[slot].count == 1;
         if !one(WIDTH) {
@@ -242,27 +287,35 @@ impl Tags {
             259
         } else if !e[PHOTOMETRIC].is(SHORT, 1) {
             262
-        } else if !e[STRIP_OFFSETS].is_number() {
+        } else if !TILED && !e[STRIP_OFFSETS].is_number() {
             273
         } else if !e[SAMPLES].is(SHORT, 1) {
             277
-        } else if !one(ROWS_PER_STRIP) {
+        } else if !TILED && !one(ROWS_PER_STRIP) {
             278
-        } else if !e[STRIP_BYTE_COUNTS].is_number() {
+        } else if !TILED && !e[STRIP_BYTE_COUNTS].is_number() {
             279
+        } else if self.has(PLANAR) && !e[PLANAR].is(SHORT, 1) {
+            284
+        } else if TILED && !one(TILE_WIDTH) {
+            322
+        } else if TILED && !one(TILE_LENGTH) {
+            323
+        } else if TILED && e[TILE_OFFSETS].kind != LONG {
+            324
+        } else if TILED && !e[TILE_BYTE_COUNTS].is_number() {
+            325
         } else {
             0
         }
     }
 
-    /// The lowest tag from 284 on that breaks rule 10, or 0.
+    /// The lowest tag from 33550 on that breaks rule 10, or 0.
     #[inline(always)]
     fn fault_of_rest(&self) -> u32 {
         let e = &self.entries;
         let lacks = |slot: usize| !self.has(slot);
-        if !(lacks(PLANAR) || e[PLANAR].is(SHORT, 1)) {
-            284
-        } else if !(lacks(SCALE) || e[SCALE].is(DOUBLE, 3)) {
+        if !(lacks(SCALE) || e[SCALE].is(DOUBLE, 3)) {
             33550
         } else if !(lacks(TIEPOINT) || e[TIEPOINT].is(DOUBLE, 6)) {
             33922
@@ -315,10 +368,11 @@ impl Tags {
 
     /// Rule 11, lowest tag first.
     #[inline(always)]
-    fn rule11<const BIG: bool>(&mut self, file: &[u8]) -> Result<(), Refusal> {
+    fn rule11<const BIG: bool, const TILED: bool>(&mut self, file: &[u8]) -> Result<(), Refusal> {
         let number = |slot: usize| self.number::<BIG>(slot);
         (self.width, self.length) = (number(WIDTH), number(LENGTH));
         let number = |slot: usize| self.number::<BIG>(slot);
+        let no_sixteens = |slot: usize| number(slot) == 0 || !number(slot).is_multiple_of(16);
         let depth = |two: &[u8; 2]| matches!(short::<BIG>(*two), 1 | 8 | 16 | 32);
         let fault = if self.width.wrapping_sub(1) >= 1_000_000 {
             256
@@ -332,10 +386,14 @@ impl Tags {
             262
         } else if number(SAMPLES).wrapping_sub(1) >= 8 {
             277
-        } else if number(ROWS_PER_STRIP) == 0 {
+        } else if !TILED && number(ROWS_PER_STRIP) == 0 {
             278
         } else if self.has(PLANAR) && number(PLANAR) != 1 {
             284
+        } else if TILED && no_sixteens(TILE_WIDTH) {
+            322
+        } else if TILED && no_sixteens(TILE_LENGTH) {
+            323
         } else {
             return Ok(());
         };
@@ -344,7 +402,7 @@ impl Tags {
 
     /// Rule 12, lowest tag first.
     #[inline(always)]
-    fn rule12<const BIG: bool>(&self, file: &[u8]) -> Result<(), Refusal> {
+    fn rule12<const BIG: bool, const TILED: bool>(&self, file: &[u8]) -> Result<(), Refusal> {
         let samples = self.number::<BIG>(SAMPLES);
         let bits = self.bits(file);
         if bits.len() as u32 != samples || bits[1..].iter().any(|other| *other != bits[0]) {
@@ -353,6 +411,9 @@ impl Tags {
         let packed = self.number::<BIG>(COMPRESSION) != 1;
         if packed && (samples != 1 || short::<BIG>(bits[0]) != 1) {
             return refuse(12, 259);
+        }
+        if TILED {
+            return self.counts_of_tiles::<BIG>();
         }
         let rows = u64::from(self.number::<BIG>(ROWS_PER_STRIP));
         // count = length / rows, rounded up, without a division
@@ -366,6 +427,20 @@ impl Tags {
         }
         if !fits(STRIP_BYTE_COUNTS) {
             return refuse(12, 279);
+        }
+        Ok(())
+    }
+
+    /// Rule 12 for the tiles: at most 62,500 across and as many down.
+    #[inline(always)]
+    fn counts_of_tiles<const BIG: bool>(&self) -> Result<(), Refusal> {
+        let across = self.width.div_ceil(self.number::<BIG>(TILE_WIDTH));
+        let tiles = across * self.length.div_ceil(self.number::<BIG>(TILE_LENGTH));
+        if self.entries[TILE_OFFSETS].count != tiles {
+            return refuse(12, 324);
+        }
+        if self.entries[TILE_BYTE_COUNTS].count != tiles {
+            return refuse(12, 325);
         }
         Ok(())
     }

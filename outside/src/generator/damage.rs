@@ -3,19 +3,21 @@
 
 use super::plan::{Laid, Spot};
 use super::prng::Random;
+use crate::reader::tables::{Family, BOTH};
 
 /// The bytes of the file after one to three damages.
 pub fn damage(mut laid: Laid, random: &mut Random) -> Vec<u8> {
     for _ in 0..random.pick(&[1, 1, 1, 2, 3]) {
-        match random.below(12) {
+        match random.below(13) {
             0 => flip(&mut laid, random),
             1 | 2 => entry_field(&mut laid, random),
             3 | 4 => short_value(&mut laid, random),
             5 => double_value(&mut laid, random),
             6 | 7 => key_field(&mut laid, random),
-            8 => strip_field(&mut laid, random),
+            8 => piece_field(&mut laid, random),
             9 => swap_entries(&mut laid, random),
             10 => head_field(&mut laid, random),
+            11 => family_field(&mut laid, random),
             _ => resize(&mut laid, random),
         }
         if laid.n() < laid.directory + 6 + 12 * laid.spots.len() {
@@ -62,7 +64,7 @@ fn entry_field(laid: &mut Laid, random: &mut Random) {
 
 /// Overwrites a number of a value that rules 11 and 12 look at.
 fn short_value(laid: &mut Laid, random: &mut Random) {
-    let tested = [256, 257, 258, 259, 262, 277, 278, 284];
+    let tested = [256, 257, 258, 259, 262, 277, 278, 284, 322, 323];
     let mut spots = whole_spots(laid);
     spots.retain(|spot| tested.contains(&spot.tag));
     if spots.is_empty() {
@@ -70,7 +72,7 @@ fn short_value(laid: &mut Laid, random: &mut Random) {
     }
     let spot = random.pick(&spots);
     let drawn = near(random, laid.n()) as u16;
-    let number = random.pick(&[0, 1, 2, 3, 4, 5, 8, 9, 16, 32, 33, 32773, drawn]);
+    let number = random.pick(&[0, 1, 2, 3, 4, 5, 8, 9, 15, 16, 17, 32, 33, 32773, drawn]);
     laid.put_short(spot.value + 2 * random.below(spot.size as u64 / 2) as usize, number);
 }
 
@@ -100,14 +102,40 @@ fn key_field(laid: &mut Laid, random: &mut Random) {
     laid.put_short(spot.value + 2 * place, number);
 }
 
-fn strip_field(laid: &mut Laid, random: &mut Random) {
-    let tag = random.pick(&[273, 279]);
-    let Some(spot) = whole_spots(laid).into_iter().find(|spot| spot.tag == tag) else { return };
-    let strips = laid.strips.len();
-    let wide = spot.size == 4 * strips;
+fn piece_field(laid: &mut Laid, random: &mut Random) {
+    let (offsets, counts) = laid.places();
+    let spot = random.pick(&[offsets, counts]);
+    if spot.value + spot.size > laid.n() {
+        return;
+    }
+    let pieces = laid.pieces.len();
+    let wide = spot.size == 4 * pieces;
     let number = near(random, laid.n());
     let number = if wide { number } else { number % 65_536 };
-    laid.put_number(spot.value, wide, random.below(strips as u64) as usize, number);
+    laid.put_number(spot.value, wide, random.below(pieces as u64) as usize, number);
+}
+
+/// Gives entries tags of a family that they do not have, or takes a family's
+/// tags from them; mostly the tags still ascend.
+fn family_field(laid: &mut Laid, random: &mut Random) {
+    let spots = laid.spots.clone();
+    let family = random.pick(BOTH);
+    let holds = |spot: &&Spot| family.tags().any(|tag| tag == spot.tag);
+    let own: Vec<&Spot> = spots.iter().filter(holds).collect();
+    if !own.is_empty() && random.chance(50) {
+        let elsewhere: &[u16] = match family {
+            Family::Strips => &[274, 280, 281],
+            Family::Tiles => &[326, 327, 328, 329],
+        };
+        own.iter().zip(elsewhere).for_each(|(spot, &tag)| laid.put_short(spot.entry, tag));
+        return;
+    }
+    let at = random.below(spots.len() as u64 - 2) as usize;
+    let between = spots[at].tag + 1..spots[at + 2].tag;
+    let fitting: Vec<u16> = family.tags().filter(|tag| between.contains(tag)).collect();
+    if !fitting.is_empty() {
+        laid.put_short(spots[at + 1].entry, random.pick(&fitting));
+    }
 }
 
 fn swap_entries(laid: &mut Laid, random: &mut Random) {

@@ -1,8 +1,10 @@
-//! The plan of a file: its byte order, its entries with their values, its
-//! strips and the order of the pieces; laid out to bytes on demand.
+//! The plan of a file: its byte order, its entries with their values, the
+//! pieces of its picture and the order of its parts; laid out to bytes on
+//! demand.
 
 use super::keyplan::Encoded;
 use super::prng::Random;
+use crate::reader::tables::Family;
 use crate::reader::Order;
 
 /// What an entry's value is, before the byte order is chosen.
@@ -12,7 +14,7 @@ pub enum Value {
     Shorts(Vec<u16>),
     Longs(Vec<u32>),
     Doubles(Vec<u64>),
-    /// The offsets of the strips, as LONG or as SHORT.
+    /// The offsets of the pieces, as LONG or as SHORT.
     Offsets {
         wide: bool,
     },
@@ -66,12 +68,13 @@ impl Tag {
     }
 }
 
-/// A piece of the file that takes its own place in it.
+/// A part of the file that takes its own place in it.
 #[derive(Clone, Copy, Debug, PartialEq, Eq)]
-pub enum Piece {
+pub enum Part {
     Directory,
     Value(u16),
-    Strip(usize),
+    /// A strip or a tile.
+    Piece(usize),
 }
 
 /// The description of a file.
@@ -79,28 +82,28 @@ pub enum Piece {
 pub struct Plan {
     pub order: Order,
     pub tags: Vec<Tag>,
-    /// The byte count of each strip.
-    pub strips: Vec<u32>,
-    /// Pieces that come first and last; the others stand between them.
-    pub first: Vec<Piece>,
-    pub last: Vec<Piece>,
-    /// The order of the pieces between, if it is not the natural one.
+    /// The byte count of each piece.
+    pub pieces: Vec<u32>,
+    /// Parts that come first and last; the others stand between them.
+    pub first: Vec<Part>,
+    pub last: Vec<Part>,
+    /// The order of the parts between, if it is not the natural one.
     pub shuffle: Option<u64>,
-    /// The fewest and the most free bytes before each piece.
+    /// The fewest and the most free bytes before each part.
     pub gap: (u64, u64),
-    /// The seed of all free bytes; strips are always filled from it.
+    /// The seed of all free bytes; pieces are always filled from it.
     pub fill: u64,
     /// Whether free bytes are random; else they are 0.
     pub dirty: bool,
 }
 
 impl Plan {
-    /// A plan without tags: the natural order of pieces, no free bytes, zeros.
+    /// A plan without tags: the natural order of parts, no free bytes, zeros.
     pub fn new(order: Order) -> Self {
         Plan {
             order,
             tags: Vec::new(),
-            strips: Vec::new(),
+            pieces: Vec::new(),
             first: Vec::new(),
             last: Vec::new(),
             shuffle: None,
@@ -125,16 +128,18 @@ impl Plan {
         self.tags.retain(|known| known.tag != tag);
     }
 
-    /// Sets the strips and both tags that tell of them.
-    pub fn set_strips(&mut self, counts: &[u32], wide: (bool, bool)) {
-        self.strips = counts.to_vec();
+    /// Sets the pieces and the two tags of a family that tell where they are;
+    /// offsets and byte counts are LONG where `wide` says so, else SHORT.
+    pub fn set_pieces(&mut self, family: Family, counts: &[u32], wide: (bool, bool)) {
+        let (offsets, byte_counts) = family.places();
+        self.pieces = counts.to_vec();
         self.set(Tag {
-            tag: 273,
+            tag: offsets,
             kind: if wide.0 { 4 } else { 3 },
             count: counts.len() as u32,
             value: Value::Offsets { wide: wide.0 },
         });
-        self.set(Tag::numbers(279, wide.1, counts));
+        self.set(Tag::numbers(byte_counts, wide.1, counts));
     }
 
     /// Sets 34735, and 34736 and 34737 where there is something in them.
@@ -162,27 +167,27 @@ impl Plan {
         }
     }
 
-    /// All pieces in the order they take in the file.
-    fn pieces(&self) -> Vec<Piece> {
-        let mut between = vec![Piece::Directory];
+    /// All parts in the order they take in the file.
+    fn parts(&self) -> Vec<Part> {
+        let mut between = vec![Part::Directory];
         let long = self.tags.iter().filter(|tag| self.size(tag) > 4);
-        between.extend(long.map(|tag| Piece::Value(tag.tag)));
-        between.extend((0..self.strips.len()).map(Piece::Strip));
+        between.extend(long.map(|tag| Part::Value(tag.tag)));
+        between.extend((0..self.pieces.len()).map(Part::Piece));
         if let Some(seed) = self.shuffle {
             Random::new(seed).shuffle(&mut between);
         }
-        between.retain(|piece| !self.first.contains(piece) && !self.last.contains(piece));
+        between.retain(|part| !self.first.contains(part) && !self.last.contains(part));
         [self.first.clone(), between, self.last.clone()].concat()
     }
 
-    fn piece_size(&self, piece: Piece) -> usize {
-        match piece {
-            Piece::Directory => 2 + 12 * self.tags.len() + 4,
-            Piece::Value(tag) => {
+    fn part_size(&self, part: Part) -> usize {
+        match part {
+            Part::Directory => 2 + 12 * self.tags.len() + 4,
+            Part::Value(tag) => {
                 let tag = self.tags.iter().find(|known| known.tag == tag).expect("a planned tag");
                 self.size(tag)
             }
-            Piece::Strip(strip) => self.strips[strip] as usize,
+            Part::Piece(piece) => self.pieces[piece] as usize,
         }
     }
 
@@ -191,18 +196,18 @@ impl Plan {
         let mut random = Random::new(self.fill);
         let mut starts = Vec::new();
         let mut end = 8;
-        for piece in self.pieces() {
+        for part in self.parts() {
             end += random.within(self.gap.0, self.gap.1) as usize;
-            if !matches!(piece, Piece::Strip(_)) {
+            if !matches!(part, Part::Piece(_)) {
                 end += end % 2;
             }
-            starts.push((piece, end));
-            end += self.piece_size(piece);
+            starts.push((part, end));
+            end += self.part_size(part);
         }
         end += random.within(self.gap.0, self.gap.1) as usize;
         let bytes = if self.dirty { random.bytes(end) } else { vec![0; end] };
         let mut laid = Laid::new(self, bytes, &starts);
-        for &(at, count) in &laid.strips.clone() {
+        for &(at, count) in &laid.pieces.clone() {
             let picture = random.bytes(count as usize);
             laid.bytes[at as usize..(at + count) as usize].copy_from_slice(&picture);
         }
@@ -228,26 +233,26 @@ pub struct Laid {
     pub bytes: Vec<u8>,
     pub directory: usize,
     pub spots: Vec<Spot>,
-    /// Offset and byte count of each strip.
-    pub strips: Vec<(u32, u32)>,
+    /// Offset and byte count of each piece.
+    pub pieces: Vec<(u32, u32)>,
 }
 
 impl Laid {
-    fn new(plan: &Plan, bytes: Vec<u8>, starts: &[(Piece, usize)]) -> Self {
-        let start = |wanted: Piece| starts.iter().find(|(piece, _)| *piece == wanted).map(|s| s.1);
-        let directory = start(Piece::Directory).expect("a directory");
+    fn new(plan: &Plan, bytes: Vec<u8>, starts: &[(Part, usize)]) -> Self {
+        let start = |wanted: Part| starts.iter().find(|(part, _)| *part == wanted).map(|s| s.1);
+        let directory = start(Part::Directory).expect("a directory");
         let spot = |(at, tag): (usize, &Tag)| {
             let entry = directory + 2 + 12 * at;
-            let value = start(Piece::Value(tag.tag)).unwrap_or(entry + 8);
+            let value = start(Part::Value(tag.tag)).unwrap_or(entry + 8);
             Spot { tag: tag.tag, entry, value, size: plan.size(tag) }
         };
-        let strip = |at: usize| start(Piece::Strip(at)).expect("a strip") as u32;
+        let piece = |at: usize| start(Part::Piece(at)).expect("a piece") as u32;
         Laid {
             order: plan.order,
             bytes,
             directory,
             spots: plan.tags.iter().enumerate().map(spot).collect(),
-            strips: (0..plan.strips.len()).map(|at| (strip(at), plan.strips[at])).collect(),
+            pieces: (0..plan.pieces.len()).map(|at| (piece(at), plan.pieces[at])).collect(),
         }
     }
 
@@ -286,7 +291,7 @@ impl Laid {
             }
             Value::Offsets { wide } => {
                 for i in 0..tag.count as usize {
-                    let offset = self.strips[i.min(self.strips.len() - 1)].0;
+                    let offset = self.pieces[i.min(self.pieces.len() - 1)].0;
                     self.put_number(at, *wide, i, offset);
                 }
             }
@@ -295,6 +300,18 @@ impl Laid {
 
     pub fn n(&self) -> usize {
         self.bytes.len()
+    }
+
+    /// Whether the pieces are tiles.
+    pub fn tiled(&self) -> bool {
+        self.spots.iter().any(|spot| spot.tag == Family::Tiles.places().0)
+    }
+
+    /// The spots of the pieces' offsets and byte counts.
+    pub fn places(&self) -> (Spot, Spot) {
+        let family = if self.tiled() { Family::Tiles } else { Family::Strips };
+        let (offsets, byte_counts) = family.places();
+        (self.spot(offsets), self.spot(byte_counts))
     }
 
     pub fn spot(&self, tag: u16) -> Spot {

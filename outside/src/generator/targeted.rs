@@ -6,15 +6,17 @@ mod bases;
 mod blocks;
 mod calls;
 mod directory;
+mod families;
 mod ground;
 mod head;
 mod keys;
 mod pairs;
-mod strips;
+mod pieces;
 mod tags;
 
 use super::prng::Random;
 use crate::reader::clauses::registered;
+use crate::reader::tables::Family;
 use crate::reader::{self, Order, Verdict};
 use bases::Bases;
 
@@ -95,15 +97,24 @@ impl Cases {
     }
 }
 
+/// The byte orders and families of pieces that the cases are made for.
+const SORTS: [(Order, Family); 4] = [
+    (Order::Little, Family::Strips),
+    (Order::Big, Family::Strips),
+    (Order::Little, Family::Tiles),
+    (Order::Big, Family::Tiles),
+];
+
 /// All targeted cases; the seed draws free bytes, layouts and pictures.
 pub fn targeted(seed: u64) -> Vec<Case> {
     let mut cases = Cases::default();
-    for (number, order) in [(0, Order::Little), (1, Order::Big)] {
-        let mut bases = Bases { order, random: Random::new(seed).branch(number) };
+    for (number, (order, family)) in (0..).zip(SORTS) {
+        let mut bases = Bases { order, family, random: Random::new(seed).branch(number) };
         head::cases(&mut bases, &mut cases);
         directory::cases(&mut bases, &mut cases);
+        families::cases(&mut bases, &mut cases);
         tags::cases(&mut bases, &mut cases);
-        strips::cases(&mut bases, &mut cases);
+        pieces::cases(&mut bases, &mut cases);
         keys::cases(&mut bases, &mut cases);
         ground::cases(&mut bases, &mut cases);
         calls::cases(&mut bases, &mut cases);

@@ -2,14 +2,14 @@
 //! stand.
 
 use super::keyplan::{Held, Keys};
-use super::plan::{Laid, Piece, Plan, Tag};
+use super::plan::{Laid, Part, Plan, Tag};
 use super::prng::Random;
-use crate::reader::tables::{Kind, KEYS};
+use crate::reader::tables::{Allowed, Family, Kind, KEYS};
 use crate::reader::Order;
 
 /// Tags outside the table that a file may carry.
 const UNKNOWN_TAGS: [u16; 16] =
-    [0, 1, 254, 255, 260, 266, 270, 282, 305, 322, 325, 33549, 34738, 50908, 65000, 65535];
+    [0, 1, 254, 255, 260, 266, 270, 282, 305, 321, 326, 33549, 34738, 50908, 65000, 65535];
 
 /// Key numbers outside the 45 known ones, their neighbours among them.
 const UNKNOWN_KEYS: [u16; 14] =
@@ -31,7 +31,7 @@ pub fn plan(random: &mut Random) -> Plan {
     plan.fill = random.draw();
     plan.dirty = random.chance(70);
     picture(&mut plan, random);
-    strips(&mut plan, random);
+    pieces(&mut plan, random);
     ground(&mut plan, random);
     let keys = keys(random).encode();
     plan.set_keys(&keys);
@@ -64,22 +64,53 @@ fn number(tag: u16, number: u32, random: &mut Random) -> Tag {
     Tag::numbers(tag, number > 65_535 || random.chance(50), &[number])
 }
 
-/// Width, length, rows per strip and the strips themselves.
-fn strips(plan: &mut Plan, random: &mut Random) {
+/// Width, length, the size of a piece and the pieces themselves.
+fn pieces(plan: &mut Plan, random: &mut Random) {
+    let family = random.pick(&[Family::Strips, Family::Tiles]);
+    let count = match family {
+        Family::Strips => strips(plan, random),
+        Family::Tiles => tiles(plan, random),
+    };
+    let counts: Vec<u32> = (0..count).map(|_| random.within(1, 20) as u32).collect();
+    let narrow_offsets = family == Family::Strips && random.chance(50);
+    plan.set_pieces(family, &counts, (!narrow_offsets, random.chance(50)));
+}
+
+/// A whole that is cut into `count` parts, and the size of a part: one of
+/// `sizes`. Neither is above 1,000,000 where there is more than one part.
+fn cut(count: u32, sizes: &[u32], random: &mut Random) -> (u32, u32) {
+    let fits = |size: &&u32| count == 1 || **size <= 65_536;
+    let fitting: Vec<u32> = sizes.iter().filter(fits).copied().collect();
+    let size = random.pick(&fitting);
+    let drawn = random.within(1, u64::from(size)) as u32;
+    let last = random.pick(&[1, size, drawn]);
+    let whole = (size.min(1_000_000) * (count - 1)).saturating_add(last).min(1_000_000);
+    (whole, size)
+}
+
+/// Width, length and rows per strip; the number of strips.
+fn strips(plan: &mut Plan, random: &mut Random) -> u32 {
     let width = random.pick(&[1, 2, 4, 9, 640, 65_535, 65_536, 1_000_000]);
     let count = random.pick(&[1, 1, 1, 2, 3, 4, 7]);
-    let rows = match count {
-        1 => random.pick(&[1, 2, 8, 1000, 65_536, 1_000_000, u32::MAX]),
-        _ => random.pick(&[1, 2, 3, 8, 1000, 65_536]),
-    };
-    let drawn = random.within(1, u64::from(rows)) as u32;
-    let last = random.pick(&[1, rows, drawn]);
-    let length = (rows.min(1_000_000) * (count - 1) + last).min(1_000_000);
+    let sizes = [1, 2, 3, 8, 1000, 65_536, 1_000_000, u32::MAX];
+    let (length, rows) = cut(count, &sizes, random);
     plan.set(number(256, width, random));
     plan.set(number(257, length, random));
     plan.set(number(278, rows, random));
-    let counts: Vec<u32> = (0..count).map(|_| random.within(1, 20) as u32).collect();
-    plan.set_strips(&counts, (random.chance(50), random.chance(50)));
+    count
+}
+
+/// Width, length and those of a tile; the number of tiles.
+fn tiles(plan: &mut Plan, random: &mut Random) -> u32 {
+    let (across, down) = random.pick(&[(1, 1), (1, 1), (2, 1), (1, 2), (3, 1), (2, 2), (3, 2)]);
+    let sizes = [16, 16, 32, 48, 256, 1008, 65_520, 65_536, 1_000_000, u32::MAX - 15];
+    let (width, of_width) = cut(across, &sizes, random);
+    let (length, of_length) = cut(down, &sizes, random);
+    plan.set(number(256, width, random));
+    plan.set(number(257, length, random));
+    plan.set(number(322, of_width, random));
+    plan.set(number(323, of_length, random));
+    across * down
 }
 
 /// A finite double of moderate size, both zeros among them.
@@ -175,10 +206,11 @@ fn keys(random: &mut Random) -> Keys {
 }
 
 /// What a known key holds.
-fn known(kind: Kind, allowed: Option<&[(u32, u32)]>, random: &mut Random) -> Held {
+fn known(kind: Kind, allowed: Allowed, random: &mut Random) -> Held {
     match kind {
         Kind::Short => {
-            let (low, high) = allowed.map_or((0, 65_535), |ranges| random.pick(ranges));
+            let ranges = allowed.ranges();
+            let (low, high) = ranges.map_or((0, 65_535), |ranges| random.pick(ranges));
             Held::Number(random.within(u64::from(low), u64::from(high)) as u16)
         }
         Kind::Double => Held::Doubles(vec![random.draw()]),
@@ -234,20 +266,20 @@ fn unknown_tags(plan: &mut Plan, random: &mut Random) {
     }
 }
 
-/// The order of the pieces and the free bytes between them.
+/// The order of the parts and the free bytes between them.
 fn arrange(plan: &mut Plan, random: &mut Random) {
     plan.gap = random.pick(&[(0, 0), (0, 0), (0, 1), (0, 3), (1, 4)]);
     if random.chance(60) {
         plan.shuffle = Some(random.draw());
     }
     match random.below(4) {
-        0 => plan.first = vec![Piece::Directory],
-        1 => plan.last = vec![Piece::Directory],
+        0 => plan.first = vec![Part::Directory],
+        1 => plan.last = vec![Part::Directory],
         _ => {}
     }
 }
 
-/// Lets strips overlap, lie over an unknown tag's value, and lets values that
+/// Lets pieces overlap, lie over an unknown tag's value, and lets values that
 /// may be anything lie over other values or over the directory.
 fn share_values(laid: &mut Laid, random: &mut Random) {
     let spots = laid.spots.clone();
@@ -263,25 +295,25 @@ fn share_values(laid: &mut Laid, random: &mut Random) {
             laid.put_long(spot.entry + 8, at as u32);
         }
     }
-    let strip = laid.strips[laid.strips.len() - 1];
+    let piece = laid.pieces[laid.pieces.len() - 1];
     for spot in spots.iter().filter(|s| UNKNOWN_TAGS.contains(&s.tag) && s.size > 4) {
-        if strip.0.is_multiple_of(2) && strip.0 as usize + spot.size <= laid.n() {
-            laid.put_long(spot.entry + 8, strip.0);
+        if piece.0.is_multiple_of(2) && piece.0 as usize + spot.size <= laid.n() {
+            laid.put_long(spot.entry + 8, piece.0);
         }
     }
     if random.chance(50) {
-        overlap_strips(laid);
+        overlap_pieces(laid);
     }
 }
 
-/// Gives every strip the offset of the first, as far as its bytes reach.
-fn overlap_strips(laid: &mut Laid) {
-    let (first, room) = laid.strips[0];
-    let (offsets, counts) = (laid.spot(273), laid.spot(279));
-    let strips = laid.strips.len();
-    for i in 1..strips {
-        let count = laid.strips[i].1.min(room);
-        laid.put_number(offsets.value, offsets.size == 4 * strips, i, first);
-        laid.put_number(counts.value, counts.size == 4 * strips, i, count);
+/// Gives every piece the offset of the first, as far as its bytes reach.
+fn overlap_pieces(laid: &mut Laid) {
+    let (first, room) = laid.pieces[0];
+    let (offsets, counts) = laid.places();
+    let pieces = laid.pieces.len();
+    for i in 1..pieces {
+        let count = laid.pieces[i].1.min(room);
+        laid.put_number(offsets.value, offsets.size == 4 * pieces, i, first);
+        laid.put_number(counts.value, counts.size == 4 * pieces, i, count);
     }
 }

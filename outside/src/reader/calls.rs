@@ -1,11 +1,11 @@
-//! The calls on a file: each gives rules 1 to 22 first, then its own.
+//! The calls on a file: each gives rules 1 to 22 and 27 first, then its own.
 
 use super::block;
 use super::clauses::registered;
 use super::directory::{Directory, Entry};
 use super::ground::{corners, rules20to21, Georeference};
 use super::keys::{number_of, rules15to19, KeyEntry, Runs};
-use super::strips::{rule13, rule14};
+use super::pieces::{pieces, rule13, rule14, Pieces};
 use super::tables::*;
 use super::tags::{rule10, rule11, rule12, rule9};
 use super::verdict::{refuse, Refusal, Verdict, ACCEPTED};
@@ -13,30 +13,35 @@ use super::verdict::{refuse, Refusal, Verdict, ACCEPTED};
 /// What an accepted file holds.
 pub struct Accepted<'a> {
     pub directory: Directory<'a>,
+    pub family: Family,
+    pub pieces: Pieces,
     pub runs: Runs<'a>,
     pub keys: Vec<KeyEntry>,
     pub georeference: Georeference,
     pub corners: [f64; 4],
 }
 
-/// Rules 1 to 22, in order of number.
-pub fn examine(file: &[u8]) -> Result<Accepted<'_>, Refusal> {
-    let directory = Directory::open(file)?;
+/// Rules 1 to 22 in order of number, with 27 directly after 8. The rules know
+/// these families of pieces only.
+pub fn examine<'a>(file: &'a [u8], families: &'static [Family]) -> Result<Accepted<'a>, Refusal> {
+    let directory = Directory::open(file, families)?;
     directory.rule6()?;
     directory.rule7()?;
     directory.rule8()?;
-    rule9(&directory)?;
+    let family = directory.rule27()?;
+    rule9(&directory, family)?;
     rule10(&directory)?;
     rule11(&directory)?;
-    rule12(&directory)?;
-    rule13(&directory)?;
-    rule14(&directory)?;
+    rule12(&directory, family)?;
+    let pieces = pieces(&directory, family);
+    rule13(&directory, &pieces)?;
+    rule14(&directory, &pieces)?;
     let runs = runs(&directory);
     let keys = rules15to19(&runs)?;
     let georeference = rules20to21(&directory)?;
     let raster = number_of(&keys, RASTER).expect("rule 18 is kept");
     let corners = corners(&directory, raster, &georeference)?;
-    Ok(Accepted { directory, runs, keys, georeference, corners })
+    Ok(Accepted { directory, family, pieces, runs, keys, georeference, corners })
 }
 
 /// The values of 34735, 34736 and 34737; rules 9 and 10 are kept.
@@ -61,7 +66,12 @@ pub struct Judged {
 
 /// The verdict on a file, K, the georeference and the corners.
 pub fn judge(file: &[u8]) -> Judged {
-    match examine(file) {
+    judge_by(file, BOTH)
+}
+
+/// The same by rules that know these families of pieces only.
+pub fn judge_by(file: &[u8], families: &'static [Family]) -> Judged {
+    match examine(file, families) {
         Ok(accepted) => Judged {
             verdict: ACCEPTED,
             keys: accepted.keys.len() as u32,
@@ -86,7 +96,7 @@ fn named<T>(outcome: Result<T, Refusal>) -> (Verdict, &'static str) {
 }
 
 pub fn judge_clause(file: &[u8]) -> (Verdict, &'static str) {
-    named(examine(file))
+    named(examine(file, BOTH))
 }
 
 /// One key row: kind 0 SHORT, 1 DOUBLE, 2 ASCII, 3 other.
@@ -128,9 +138,9 @@ impl Accepted<'_> {
     }
 }
 
-/// Rules 1 to 22, then 23: the rows of a file for `lent` rows of room.
+/// Rules 1 to 22 and 27, then 23: the rows of a file for `lent` rows of room.
 fn rows_for(file: &[u8], lent: usize) -> Result<Vec<Row>, Refusal> {
-    let rows = examine(file)?.rows();
+    let rows = examine(file, BOTH)?.rows();
     if lent < rows.len() {
         return refuse(23, rows.len() as u32, "fewer rows than K");
     }
@@ -160,9 +170,9 @@ pub struct Cited {
     pub length: usize,
 }
 
-/// Rules 1 to 22, then 26: the row of the ASCII key asked for.
+/// Rules 1 to 22 and 27, then 26: the row of the ASCII key asked for.
 fn cited_row(file: &[u8], key: u32) -> Result<Row, Refusal> {
-    let rows = examine(file)?.rows();
+    let rows = examine(file, BOTH)?.rows();
     let found = rows.iter().find(|row| row.key == key);
     let ascii = KEYS.iter().any(|row| u32::from(row.key) == key && row.kind == Kind::Ascii);
     match (found, ascii) {
@@ -199,7 +209,7 @@ pub struct Text {
 
 /// The value of 50909 where present, else the whole outside text.
 pub fn metadata(file: &[u8], outside: &[u8]) -> Text {
-    let accepted = match examine(file) {
+    let accepted = match examine(file, BOTH) {
         Ok(accepted) => accepted,
         Err(refusal) => return Text { verdict: refusal.verdict, from: 0, start: 0, length: 0 },
     };
@@ -221,9 +231,9 @@ pub struct Block {
     pub lengths: [usize; 3],
 }
 
-/// Rules 1 to 22, then 24, then 25: the three runs of the key block.
+/// Rules 1 to 22 and 27, then 24, then 25: the three runs of the key block.
 fn block_for(file: &[u8], room: usize) -> Result<[Vec<u8>; 3], Refusal> {
-    let accepted = examine(file)?;
+    let accepted = examine(file, BOTH)?;
     let runs = block::write(&accepted.runs, &accepted.keys)?;
     let bytes: usize = runs.iter().map(Vec::len).sum();
     if room < bytes {

@@ -1,7 +1,7 @@
-//! The head and the directory of the file: rules 1 to 8.
+//! The head and the directory of the file: rules 1 to 8 and 27.
 
 use super::number::{index, long, short, size_of_type, Order};
-use super::tables::{LONGEST, MOST_ENTRIES};
+use super::tables::{Family, Need, TagRow, LONGEST, MOST_ENTRIES, TAGS};
 use super::verdict::{refuse, Refusal};
 use std::ops::Range;
 
@@ -38,16 +38,18 @@ pub struct Directory<'a> {
     pub at: u64,
     pub entries: Vec<Entry>,
     pub next: u32,
+    /// The families of pieces that the rules know.
+    pub families: &'static [Family],
 }
 
 impl<'a> Directory<'a> {
     /// Rules 1 to 5.
-    pub fn open(file: &'a [u8]) -> Result<Self, Refusal> {
+    pub fn open(file: &'a [u8], families: &'static [Family]) -> Result<Self, Refusal> {
         let (order, at) = head(file)?;
         let count = rule5(file, order, at)?;
         let entries = (0..count).map(|number| entry(file, order, at + 2 + 12 * number)).collect();
         let next = long(order, file, at + 2 + 12 * count);
-        Ok(Directory { file, order, at, entries, next })
+        Ok(Directory { file, order, at, entries, next, families })
     }
 
     pub fn n(&self) -> u64 {
@@ -61,6 +63,14 @@ impl<'a> Directory<'a> {
 
     pub fn find(&self, tag: u16) -> Option<&Entry> {
         self.entries.iter().find(|entry| entry.tag == tag)
+    }
+
+    /// The table of tags, with the rows of the known families only.
+    pub fn table(&self) -> impl Iterator<Item = &'static TagRow> + '_ {
+        TAGS.iter().filter(|row| match row.need {
+            Need::In(family) => self.families.contains(&family),
+            _ => true,
+        })
     }
 
     /// The value bytes of a present tag of a type from 1 to 12.
@@ -100,6 +110,18 @@ impl<'a> Directory<'a> {
             return refuse(8, 0, "next offset");
         }
         Ok(())
+    }
+
+    /// Rule 27: tags of just one family are present, and that is the family.
+    /// Where the rules know one alone there is nothing to ask.
+    pub fn rule27(&self) -> Result<Family, Refusal> {
+        let present = |family: &&Family| family.tags().any(|tag| self.find(tag).is_some());
+        let found: Vec<&Family> = self.families.iter().filter(present).collect();
+        match (self.families, &found[..]) {
+            (&[family], _) | (_, &[&family]) => Ok(family),
+            (_, []) => refuse(27, 0, "neither family"),
+            _ => refuse(27, 0, "both families"),
+        }
     }
 }
 

@@ -1,5 +1,6 @@
-//! The two tables of document 01: one for tags, one for keys, each in
-//! ascending order. A later request adds its rows here.
+//! The two tables: one for tags, document 01's with the four tags of tiles,
+//! and one for keys, each in ascending order. A later request adds its rows
+//! here.
 
 /// The most entries a directory may have.
 pub const MOST_ENTRIES: u64 = 1_024;
@@ -24,6 +25,10 @@ pub const SAMPLES: u16 = 277;
 pub const ROWS_PER_STRIP: u16 = 278;
 pub const STRIP_BYTE_COUNTS: u16 = 279;
 pub const PLANAR: u16 = 284;
+pub const TILE_WIDTH: u16 = 322;
+pub const TILE_LENGTH: u16 = 323;
+pub const TILE_OFFSETS: u16 = 324;
+pub const TILE_BYTE_COUNTS: u16 = 325;
 pub const SCALE: u16 = 33550;
 pub const TIEPOINT: u16 = 33922;
 pub const MATRIX: u16 = 34264;
@@ -48,12 +53,42 @@ impl Count {
     }
 }
 
-/// The allowed numbers as ascending ranges, both ends included.
-pub type Allowed = Option<&'static [(u32, u32)]>;
+/// The allowed numbers.
+#[derive(Clone, Copy, Debug, PartialEq, Eq)]
+pub enum Allowed {
+    /// Any number, or another rule decides.
+    Any,
+    /// Ascending ranges, both ends included.
+    In(&'static [(u32, u32)]),
+    /// The positive multiples of a number.
+    MultiplesOf(u32),
+}
 
-/// Which side of the allowed numbers a number lies on, or none if allowed.
-pub fn outside(allowed: Allowed, number: u32) -> Option<&'static str> {
-    let ranges = allowed?;
+impl Allowed {
+    /// The ranges, where there are such.
+    pub fn ranges(self) -> Option<&'static [(u32, u32)]> {
+        match self {
+            Allowed::In(ranges) => Some(ranges),
+            _ => None,
+        }
+    }
+}
+
+/// How a number misses the allowed ones, or none if it is allowed.
+pub fn outside(allowed: Allowed, number: u32) -> Option<String> {
+    match allowed {
+        Allowed::Any => None,
+        Allowed::In(ranges) => side(ranges, number).map(str::to_string),
+        Allowed::MultiplesOf(_) if number == 0 => Some("not positive".to_string()),
+        Allowed::MultiplesOf(step) if !number.is_multiple_of(step) => {
+            Some(format!("not a multiple of {step}"))
+        }
+        Allowed::MultiplesOf(_) => None,
+    }
+}
+
+/// Which side of the ranges a number lies on, or none if it is in one.
+fn side(ranges: &[(u32, u32)], number: u32) -> Option<&'static str> {
     if ranges.iter().any(|&(low, high)| low <= number && number <= high) {
         None
     } else if number < ranges[0].0 {
@@ -65,50 +100,106 @@ pub fn outside(allowed: Allowed, number: u32) -> Option<&'static str> {
     }
 }
 
+/// The two families of tags that tell of the pieces of a picture: a piece is
+/// a strip or a tile.
+#[derive(Clone, Copy, Debug, PartialEq, Eq)]
+pub enum Family {
+    Strips,
+    Tiles,
+}
+
+/// The families of document 01, where every picture is in strips.
+pub const STRIPS_ALONE: &[Family] = &[Family::Strips];
+/// The families of request C-11.
+pub const BOTH: &[Family] = &[Family::Strips, Family::Tiles];
+
+impl Family {
+    /// What one piece is called.
+    pub fn word(self) -> &'static str {
+        match self {
+            Family::Strips => "strip",
+            Family::Tiles => "tile",
+        }
+    }
+
+    /// The tags of the offsets and of the byte counts of the pieces.
+    pub fn places(self) -> (u16, u16) {
+        match self {
+            Family::Strips => (STRIP_OFFSETS, STRIP_BYTE_COUNTS),
+            Family::Tiles => (TILE_OFFSETS, TILE_BYTE_COUNTS),
+        }
+    }
+
+    /// All its tags, lowest first.
+    pub fn tags(self) -> impl Iterator<Item = u16> {
+        TAGS.iter().filter(move |row| row.need == Need::In(self)).map(|row| row.tag)
+    }
+}
+
+/// When rule 9 asks for a tag.
+#[derive(Clone, Copy, Debug, PartialEq, Eq)]
+pub enum Need {
+    Never,
+    Always,
+    /// Where the picture is in pieces of this family.
+    In(Family),
+}
+
 /// One row of the table of tags.
 #[derive(Clone, Copy, Debug)]
 pub struct TagRow {
     pub tag: u16,
-    pub needed: bool,
+    pub need: Need,
     pub kinds: &'static [u16],
     pub count: Count,
-    /// What rule 11 allows; none where another rule decides or any value may stand.
+    /// What rule 11 allows.
     pub allowed: Allowed,
 }
 
 const fn tag(
     tag: u16,
-    needed: bool,
+    need: Need,
     kinds: &'static [u16],
     count: Count,
     allowed: Allowed,
 ) -> TagRow {
-    TagRow { tag, needed, kinds, count, allowed }
+    TagRow { tag, need, kinds, count, allowed }
 }
 
 const ONE: Count = Count::Exactly(1);
 const MANY: Count = Count::AtLeast(1);
 const NUMBER: &[u16] = &[SHORT, LONG];
 
+const SIXTEENS: Allowed = Allowed::MultiplesOf(16);
+const STRIPS: Need = Need::In(Family::Strips);
+const TILES: Need = Need::In(Family::Tiles);
+
+use Allowed::{Any, In};
+use Need::{Always, Never};
+
 /// The table of tags.
-pub static TAGS: [TagRow; 17] = [
-    tag(WIDTH, true, NUMBER, ONE, Some(&[(1, 1_000_000)])),
-    tag(LENGTH, true, NUMBER, ONE, Some(&[(1, 1_000_000)])),
-    tag(BITS, true, &[SHORT], MANY, Some(&[(1, 1), (8, 8), (16, 16), (32, 32)])),
-    tag(COMPRESSION, true, &[SHORT], ONE, Some(&[(1, 2), (32773, 32773)])),
-    tag(PHOTOMETRIC, true, &[SHORT], ONE, Some(&[(0, 3)])),
-    tag(STRIP_OFFSETS, true, NUMBER, MANY, None),
-    tag(SAMPLES, true, &[SHORT], ONE, Some(&[(1, 8)])),
-    tag(ROWS_PER_STRIP, true, NUMBER, ONE, Some(&[(1, u32::MAX)])),
-    tag(STRIP_BYTE_COUNTS, true, NUMBER, MANY, None),
-    tag(PLANAR, false, &[SHORT], ONE, Some(&[(1, 1)])),
-    tag(SCALE, false, &[DOUBLE], Count::Exactly(3), None),
-    tag(TIEPOINT, false, &[DOUBLE], Count::Exactly(6), None),
-    tag(MATRIX, false, &[DOUBLE], Count::Exactly(16), None),
-    tag(KEY_DIRECTORY, true, &[SHORT], Count::AtLeast(4), None),
-    tag(DOUBLES, false, &[DOUBLE], MANY, None),
-    tag(CHARACTERS, false, &[ASCII], MANY, None),
-    tag(METADATA, false, &[BYTE], MANY, None),
+pub static TAGS: [TagRow; 21] = [
+    tag(WIDTH, Always, NUMBER, ONE, In(&[(1, 1_000_000)])),
+    tag(LENGTH, Always, NUMBER, ONE, In(&[(1, 1_000_000)])),
+    tag(BITS, Always, &[SHORT], MANY, In(&[(1, 1), (8, 8), (16, 16), (32, 32)])),
+    tag(COMPRESSION, Always, &[SHORT], ONE, In(&[(1, 2), (32773, 32773)])),
+    tag(PHOTOMETRIC, Always, &[SHORT], ONE, In(&[(0, 3)])),
+    tag(STRIP_OFFSETS, STRIPS, NUMBER, MANY, Any),
+    tag(SAMPLES, Always, &[SHORT], ONE, In(&[(1, 8)])),
+    tag(ROWS_PER_STRIP, STRIPS, NUMBER, ONE, In(&[(1, u32::MAX)])),
+    tag(STRIP_BYTE_COUNTS, STRIPS, NUMBER, MANY, Any),
+    tag(PLANAR, Never, &[SHORT], ONE, In(&[(1, 1)])),
+    tag(TILE_WIDTH, TILES, NUMBER, ONE, SIXTEENS),
+    tag(TILE_LENGTH, TILES, NUMBER, ONE, SIXTEENS),
+    tag(TILE_OFFSETS, TILES, &[LONG], MANY, Any),
+    tag(TILE_BYTE_COUNTS, TILES, NUMBER, MANY, Any),
+    tag(SCALE, Never, &[DOUBLE], Count::Exactly(3), Any),
+    tag(TIEPOINT, Never, &[DOUBLE], Count::Exactly(6), Any),
+    tag(MATRIX, Never, &[DOUBLE], Count::Exactly(16), Any),
+    tag(KEY_DIRECTORY, Always, &[SHORT], Count::AtLeast(4), Any),
+    tag(DOUBLES, Never, &[DOUBLE], MANY, Any),
+    tag(CHARACTERS, Never, &[ASCII], MANY, Any),
+    tag(METADATA, Never, &[BYTE], MANY, Any),
 ];
 
 /// The kind of a key; its number is the one a row shows.
@@ -149,16 +240,16 @@ pub struct KeyRow {
     pub key: u16,
     pub kind: Kind,
     pub needed: Needed,
-    /// What rule 19 allows; none where the value is free.
+    /// What rule 19 allows.
     pub allowed: Allowed,
 }
 
 const fn key(key: u16, kind: Kind) -> KeyRow {
-    KeyRow { key, kind, needed: Needed::No, allowed: None }
+    KeyRow { key, kind, needed: Needed::No, allowed: Any }
 }
 
 const fn tested(key: u16, needed: Needed, allowed: &'static [(u32, u32)]) -> KeyRow {
-    KeyRow { key, kind: Kind::Short, needed, allowed: Some(allowed) }
+    KeyRow { key, kind: Kind::Short, needed, allowed: In(allowed) }
 }
 
 use Kind::{Ascii, Double, Short};

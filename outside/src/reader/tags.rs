@@ -25,9 +25,11 @@ pub fn one(directory: &Directory, tag: u16) -> u32 {
     needed(directory, tag)[0]
 }
 
-/// Rule 9: every needed tag is present.
-pub fn rule9(directory: &Directory) -> Result<(), Refusal> {
-    for row in TAGS.iter().filter(|row| row.needed) {
+/// Rule 9: every needed tag is present, those of the picture's own family
+/// among them.
+pub fn rule9(directory: &Directory, family: Family) -> Result<(), Refusal> {
+    let needed = |row: &&TagRow| row.need == Need::Always || row.need == Need::In(family);
+    for row in directory.table().filter(needed) {
         if directory.find(row.tag).is_none() {
             return refuse(9, u32::from(row.tag), &format!("{} absent", row.tag));
         }
@@ -37,7 +39,7 @@ pub fn rule9(directory: &Directory) -> Result<(), Refusal> {
 
 /// The present tags of the table, lowest first.
 fn present<'d>(directory: &'d Directory) -> impl Iterator<Item = (&'static TagRow, &'d Entry)> {
-    TAGS.iter().filter_map(|row| Some((row, directory.find(row.tag)?)))
+    directory.table().filter_map(|row| Some((row, directory.find(row.tag)?)))
 }
 
 /// Rule 10: each present tag of the table has its type and count.
@@ -56,10 +58,10 @@ pub fn rule10(directory: &Directory) -> Result<(), Refusal> {
 
 /// Rule 11: each value of a present tag is allowed.
 pub fn rule11(directory: &Directory) -> Result<(), Refusal> {
-    for (row, entry) in present(directory).filter(|(row, _)| row.allowed.is_some()) {
+    for (row, entry) in present(directory).filter(|(row, _)| row.allowed != Allowed::Any) {
         for number in numbers(directory, entry) {
-            if let Some(side) = outside(row.allowed, number) {
-                return refuse(11, u32::from(row.tag), &format!("{} {side}", row.tag));
+            if let Some(how) = outside(row.allowed, number) {
+                return refuse(11, u32::from(row.tag), &format!("{} {how}", row.tag));
             }
         }
     }
@@ -67,7 +69,7 @@ pub fn rule11(directory: &Directory) -> Result<(), Refusal> {
 }
 
 /// Rule 12: the tags agree with each other.
-pub fn rule12(directory: &Directory) -> Result<(), Refusal> {
+pub fn rule12(directory: &Directory, family: Family) -> Result<(), Refusal> {
     let bits = needed(directory, BITS);
     let samples = one(directory, SAMPLES);
     if bits.len() as u64 != u64::from(samples) {
@@ -83,21 +85,32 @@ pub fn rule12(directory: &Directory) -> Result<(), Refusal> {
     if compression != 1 && samples != 1 {
         return refuse(12, u32::from(COMPRESSION), &format!("259 is {compression}, samples not 1"));
     }
-    let strips = strips_needed(one(directory, LENGTH), one(directory, ROWS_PER_STRIP));
-    for tag in [STRIP_OFFSETS, STRIP_BYTE_COUNTS] {
+    let pieces = pieces_needed(directory, family);
+    let (offsets, byte_counts) = family.places();
+    for tag in [offsets, byte_counts] {
         let count = u64::from(directory.find(tag).expect("rule 9 is kept").count);
-        if count < strips {
+        if count < pieces {
             return refuse(12, u32::from(tag), &format!("{tag} too few"));
         }
-        if count > strips {
+        if count > pieces {
             return refuse(12, u32::from(tag), &format!("{tag} too many"));
         }
     }
     Ok(())
 }
 
-/// Length / rows per strip, rounded up.
-fn strips_needed(length: u32, rows_per_strip: u32) -> u64 {
-    let (length, rows) = (u64::from(length), u64::from(rows_per_strip));
-    length / rows + u64::from(length % rows != 0)
+/// How many pieces the picture has: length / rows per strip, rounded up; or
+/// the tiles across times the tiles down, each rounded up.
+fn pieces_needed(directory: &Directory, family: Family) -> u64 {
+    let parts = |whole: u16, part: u16| rounded_up(one(directory, whole), one(directory, part));
+    match family {
+        Family::Strips => parts(LENGTH, ROWS_PER_STRIP),
+        Family::Tiles => parts(WIDTH, TILE_WIDTH) * parts(LENGTH, TILE_LENGTH),
+    }
+}
+
+/// The quotient, rounded up.
+fn rounded_up(whole: u32, part: u32) -> u64 {
+    let (whole, part) = (u64::from(whole), u64::from(part));
+    whole / part + u64::from(whole % part != 0)
 }

@@ -6,7 +6,7 @@ use super::directory::Entry;
 use super::ground::Georeference;
 use super::keys::number_of;
 use super::number::Order;
-use super::strips::{share, strips};
+use super::pieces::share;
 use super::tables::*;
 use super::tags::{needed, one};
 use std::ops::Range;
@@ -25,12 +25,22 @@ pub const VARIETIES: &[&str] = &[
     "278 LONG",
     "279 SHORT",
     "279 LONG",
+    "322 SHORT",
+    "322 LONG",
+    "323 SHORT",
+    "323 LONG",
+    "325 SHORT",
+    "325 LONG",
     "258 in its entry",
     "258 at an offset",
     "273 in its entry",
     "273 at an offset",
     "279 in its entry",
     "279 at an offset",
+    "324 in its entry",
+    "324 at an offset",
+    "325 in its entry",
+    "325 at an offset",
     "34737 in its entry",
     "34737 at an offset",
     "34737 absent",
@@ -49,16 +59,31 @@ pub const VARIETIES: &[&str] = &[
     "directory among the values",
     "directory ends at n",
     "a value ends at n",
-    "a strip ends at n",
     "values share bytes",
     "a value over the directory",
     "one strip",
     "many strips",
     "strips overlap",
     "strip at an odd offset",
+    "strip ends at n",
     "strip ends where the list starts",
     "strip starts where the list ends",
     "strip over an unknown tag's value",
+    "one tile",
+    "many tiles",
+    "tiles overlap",
+    "tile at an odd offset",
+    "tile ends at n",
+    "tile ends where the list starts",
+    "tile starts where the list ends",
+    "tile over an unknown tag's value",
+    "many tiles across",
+    "many tiles down",
+    "many tiles across and down",
+    "tiles end at the edge",
+    "tiles reach past the edge",
+    "tile of the largest width",
+    "tile of the largest length",
     "bits 1",
     "bits 8",
     "bits 16",
@@ -97,11 +122,12 @@ pub const VARIETIES: &[&str] = &[
 
 /// The labels of a file; none for a refused one.
 pub fn varieties(file: &[u8]) -> Vec<&'static str> {
-    let Ok(accepted) = examine(file) else { return Vec::new() };
+    let Ok(accepted) = examine(file, BOTH) else { return Vec::new() };
     let mut labels = Vec::new();
     labels.extend(of_tags(&accepted));
     labels.extend(of_layout(&accepted));
-    labels.extend(of_strips(&accepted));
+    labels.extend(of_pieces(&accepted));
+    labels.extend(of_tiles(&accepted));
     labels.extend(of_picture(&accepted));
     labels.extend(of_keys(&accepted));
     labels.extend(of_key_values(&accepted));
@@ -117,18 +143,20 @@ fn label_of(label: &str) -> &'static str {
 }
 
 /// The labels whose condition holds.
-fn chosen(labels: &[(bool, &str)]) -> Vec<String> {
+fn chosen(labels: &[(bool, impl ToString)]) -> Vec<String> {
     labels.iter().filter(|(holds, _)| *holds).map(|(_, label)| label.to_string()).collect()
 }
 
 fn of_tags(accepted: &Accepted) -> Vec<String> {
     let directory = &accepted.directory;
     let mut labels = Vec::new();
-    for tag in [WIDTH, LENGTH, STRIP_OFFSETS, ROWS_PER_STRIP, STRIP_BYTE_COUNTS] {
-        let kind = directory.find(tag).map_or(0, |entry| entry.kind);
-        labels.push(format!("{tag} {}", if kind == SHORT { "SHORT" } else { "LONG" }));
+    let numbers = TAGS.iter().filter(|row| row.kinds.contains(&SHORT) && row.kinds.contains(&LONG));
+    for entry in numbers.filter_map(|row| directory.find(row.tag)) {
+        let word = if entry.kind == SHORT { "SHORT" } else { "LONG" };
+        labels.push(format!("{} {word}", entry.tag));
     }
-    for tag in [BITS, STRIP_OFFSETS, STRIP_BYTE_COUNTS, CHARACTERS, DOUBLES, METADATA] {
+    let (offsets, byte_counts) = accepted.family.places();
+    for tag in [BITS, offsets, byte_counts, CHARACTERS, DOUBLES, METADATA] {
         labels.push(match directory.find(tag) {
             None => format!("{tag} absent"),
             Some(entry) if entry.in_entry() => format!("{tag} in its entry"),
@@ -181,30 +209,51 @@ fn of_layout(accepted: &Accepted) -> Vec<String> {
     ])
 }
 
-fn of_strips(accepted: &Accepted) -> Vec<String> {
-    let strips = strips(&accepted.directory);
+fn of_pieces(accepted: &Accepted) -> Vec<String> {
+    let (word, pieces) = (accepted.family.word(), &accepted.pieces.list);
     let mut list = values(accepted, true);
     list.push(accepted.directory.range());
     let unknown = values(accepted, false);
-    let any = |test: &dyn Fn(&Range<u64>) -> bool| strips.iter().any(test);
+    let any = |test: &dyn Fn(&Range<u64>) -> bool| pieces.iter().any(test);
     chosen(&[
-        (strips.len() == 1, "one strip"),
-        (strips.len() > 1, "many strips"),
-        (pairwise_share(&strips), "strips overlap"),
-        (any(&|strip| strip.start % 2 == 1), "strip at an odd offset"),
-        (any(&|strip| strip.end == accepted.directory.n()), "a strip ends at n"),
+        (pieces.len() == 1, format!("one {word}")),
+        (pieces.len() > 1, format!("many {word}s")),
+        (pairwise_share(pieces), format!("{word}s overlap")),
+        (any(&|piece| piece.start % 2 == 1), format!("{word} at an odd offset")),
+        (any(&|piece| piece.end == accepted.directory.n()), format!("{word} ends at n")),
         (
-            any(&|strip| list.iter().any(|part| part.start == strip.end)),
-            "strip ends where the list starts",
+            any(&|piece| list.iter().any(|part| part.start == piece.end)),
+            format!("{word} ends where the list starts"),
         ),
         (
-            any(&|strip| list.iter().any(|part| part.end == strip.start)),
-            "strip starts where the list ends",
+            any(&|piece| list.iter().any(|part| part.end == piece.start)),
+            format!("{word} starts where the list ends"),
         ),
         (
-            any(&|strip| unknown.iter().any(|value| share(strip, value))),
-            "strip over an unknown tag's value",
+            any(&|piece| unknown.iter().any(|value| share(piece, value))),
+            format!("{word} over an unknown tag's value"),
         ),
+    ])
+}
+
+/// How the tiles lie over the picture; nothing for one in strips.
+fn of_tiles(accepted: &Accepted) -> Vec<String> {
+    if accepted.family != Family::Tiles {
+        return Vec::new();
+    }
+    let number = |tag: u16| one(&accepted.directory, tag);
+    let (width, length) = (number(WIDTH), number(LENGTH));
+    let (across, down) = (number(TILE_WIDTH), number(TILE_LENGTH));
+    let past = width % across != 0 || length % down != 0;
+    let largest = u32::MAX - 15;
+    chosen(&[
+        (width > across, "many tiles across"),
+        (length > down, "many tiles down"),
+        (width > across && length > down, "many tiles across and down"),
+        (!past, "tiles end at the edge"),
+        (past, "tiles reach past the edge"),
+        (across == largest, "tile of the largest width"),
+        (down == largest, "tile of the largest length"),
     ])
 }
 

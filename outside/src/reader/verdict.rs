@@ -7,6 +7,12 @@ pub struct Verdict {
     pub place: u32,
 }
 
+/// The numbers that a judgement of a file can give: 0, and rules 1 to 22 and 27.
+/// The calls have 23 to 26 besides.
+pub fn judgements() -> impl Iterator<Item = u32> {
+    (0..=22).chain([27])
+}
+
 /// The verdict of a file, or call, that breaks nothing.
 pub const ACCEPTED: Verdict = Verdict { number: 0, place: 0 };
 

@@ -7,6 +7,7 @@ pub mod questions;
 use outside::generator::keyplan::Encoded;
 use outside::generator::plan::{Plan, Tag};
 use outside::generator::prng::Random;
+use outside::reader::tables::Family;
 use outside::reader::{listed, Order, Row, Verdict};
 
 /// File A, byte by byte: 270 bytes, little-endian.
@@ -81,11 +82,42 @@ pub fn plan_like_a(order: Order, keys: &Encoded) -> Plan {
     for (tag, number) in [(256, 4), (257, 2), (258, 8), (259, 1), (262, 1), (277, 1), (278, 2)] {
         plan.set(Tag::shorts(tag, &[number]));
     }
-    plan.set_strips(&[8], (true, true));
+    plan.set_pieces(Family::Strips, &[8], (true, true));
     plan.set(Tag::doubles(33550, &[0.5, 0.5, 0.0]));
     plan.set(Tag::doubles(33922, &[0.0, 0.0, 0.0, 500_000.0, 4_000_000.0, 0.0]));
     plan.set_keys(keys);
     plan
+}
+
+/// The same picture in one tile of 16 by 16.
+pub fn tiled(mut plan: Plan) -> Plan {
+    Family::Strips.tags().for_each(|tag| plan.remove(tag));
+    plan.set(Tag::shorts(322, &[16]));
+    plan.set(Tag::shorts(323, &[16]));
+    plan.set_pieces(Family::Tiles, &[8], (true, true));
+    plan
+}
+
+/// The tags of a file's directory, read apart from the reader; none where it
+/// has no whole one.
+pub fn tags(file: &[u8]) -> Vec<u16> {
+    let number = |at: usize, width: usize| -> Option<usize> {
+        let bytes = file.get(at..at + width)?;
+        Some(held::number(file[0] == b'I', bytes, 0, width) as usize)
+    };
+    let whole = || -> Option<Vec<u16>> {
+        let directory = number(4, 4)?;
+        let entries = 0..number(directory, 2)?;
+        entries.map(|at| number(directory + 2 + 12 * at, 2).map(|tag| tag as u16)).collect()
+    };
+    whole().unwrap_or_default()
+}
+
+/// The files of real producers, as outside/real makes them.
+pub fn field() -> Vec<Vec<u8>> {
+    let folder = concat!(env!("CARGO_MANIFEST_DIR"), "/field");
+    let entries = std::fs::read_dir(folder).expect("a folder of files");
+    entries.map(|entry| std::fs::read(entry.expect("an entry").path()).expect("a file")).collect()
 }
 
 /// The file with every byte off its reading list drawn anew.

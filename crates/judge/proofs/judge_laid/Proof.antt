@@ -1,14 +1,11 @@
 use Rattle.layout.specs.Finding.{cellTags, cellSlots}
 use borrow.Author.Needs.{needs}
 use native.Mathlib.Omega.{arith}
-use Prim.Native.Nat.{ℕ, _+_, _-_, _*_, _≤_, _<_}
-use mathlib.Core.Path.{_≡_, refl, ap, sym, _∙_, subst}
-use mathlib.Core.List.{List}
-use lib.ListN.{length}
-use Rattle.paper.specs.Layout.{dirLen}
+use Prim.Native.Nat.{_-_}
+use mathlib.Core.Path.{refl, _∙_}
 use Rattle.paper.specs.Tags.{table}
 use Rattle.layout.specs.Columns.{tags, fieldOf, column, typsOf, countsOf, startsOf, lensOf}
-use Rattle.layout.proofs.Opening.{Laying, laid}
+use Rattle.layout.proofs.Opening.{laid}
 use Rattle.judge.proofs.Laid.{scan-bad, scan-good, scan-passed, part-is, part-room}
 use Rattle.judge.proofs.judge_laid.Statement.{statement}
 use Rattle.judge.proofs.judge_laid.Tie as tie

@@ -1,11 +1,9 @@
 use borrow.Author.Needs.{needs}
 use lib.Dec.{lit<}
-use native.Mathlib.Omega.{arith}
-use mathlib.Core.Path.{_≡_, ap, sym, _∙_, subst}
-use mathlib.Core.List.{List}
+use mathlib.Core.Path.{_∙_}
 use Rattle.judge.proofs.Shown.{within, keys-seen, sized, keys-bad, ground-bad, all-good}
 use Rattle.keys.specs.Pass.{runs, keysJudged}
-use Rattle.ground.specs.Answer.{Sized, groundJudged}
+use Rattle.ground.specs.Answer.{groundJudged}
 use Rattle.judge.proofs.judge_runs.Statement.{statement}
 use Rattle.judge.proofs.judge_runs.Tie as tie
 use Rattle.judge.proofs.judge_runs.Reads as reads
@@ -26,7 +24,7 @@ element-copy-out-value-2 c = search needs
 
 -- src/lib.rt:90:9
 value-requires : tie.Need-value-requires
-value-requires c κs = within (c .before .before .before .args .file .now) (c .before .before .before .args .big) (c .before .before .before .args .at) (c .before .before .before .args .c) (c .before .before .before .args .starts .now) (c .before .before .before .args .lens .now) (c .before .before .before .args .width) (c .before .before .before .args .length) (c .before .before .before .pre) 13 (lit< tt)
+value-requires c κs = within (c .before .before .before .args .file .now) (c .before .before .before .args .big) (c .before .before .before .args .at) (c .before .before .before .args .c) (c .before .before .before .args .starts .now) (c .before .before .before .args .lens .now) (c .before .before .before .args .width) (c .before .before .before .args .length) (c .before .before .before .pre) 17 (lit< tt)
 
 -- src/lib.rt:91:39
 element-copy-out-value-3 : tie.Need-element-copy-out-value-3
@@ -38,7 +36,7 @@ element-copy-out-value-4 c = search needs
 
 -- src/lib.rt:91:9
 value-requires-2 : tie.Need-value-requires-2
-value-requires-2 c κs = within (c .before .before .before .before .before .before .args .file .now) (c .before .before .before .before .before .before .args .big) (c .before .before .before .before .before .before .args .at) (c .before .before .before .before .before .before .args .c) (c .before .before .before .before .before .before .args .starts .now) (c .before .before .before .before .before .before .args .lens .now) (c .before .before .before .before .before .before .args .width) (c .before .before .before .before .before .before .args .length) (c .before .before .before .before .before .before .pre) 14 (lit< tt)
+value-requires-2 c κs = within (c .before .before .before .before .before .before .args .file .now) (c .before .before .before .before .before .before .args .big) (c .before .before .before .before .before .before .args .at) (c .before .before .before .before .before .before .args .c) (c .before .before .before .before .before .before .args .starts .now) (c .before .before .before .before .before .before .args .lens .now) (c .before .before .before .before .before .before .args .width) (c .before .before .before .before .before .before .args .length) (c .before .before .before .before .before .before .pre) 18 (lit< tt)
 
 -- src/lib.rt:92:42
 element-copy-out-value-5 : tie.Need-element-copy-out-value-5
@@ -50,7 +48,7 @@ element-copy-out-value-6 c = search needs
 
 -- src/lib.rt:92:9
 value-requires-3 : tie.Need-value-requires-3
-value-requires-3 c κs = within (c .before .before .before .before .before .before .before .before .before .args .file .now) (c .before .before .before .before .before .before .before .before .before .args .big) (c .before .before .before .before .before .before .before .before .before .args .at) (c .before .before .before .before .before .before .before .before .before .args .c) (c .before .before .before .before .before .before .before .before .before .args .starts .now) (c .before .before .before .before .before .before .before .before .before .args .lens .now) (c .before .before .before .before .before .before .before .before .before .args .width) (c .before .before .before .before .before .before .before .before .before .args .length) (c .before .before .before .before .before .before .before .before .before .pre) 15 (lit< tt)
+value-requires-3 c κs = within (c .before .before .before .before .before .before .before .before .before .args .file .now) (c .before .before .before .before .before .before .before .before .before .args .big) (c .before .before .before .before .before .before .before .before .before .args .at) (c .before .before .before .before .before .before .before .before .before .args .c) (c .before .before .before .before .before .before .before .before .before .args .starts .now) (c .before .before .before .before .before .before .before .before .before .args .lens .now) (c .before .before .before .before .before .before .before .before .before .args .width) (c .before .before .before .before .before .before .before .before .before .args .length) (c .before .before .before .before .before .before .before .before .before .pre) 19 (lit< tt)
 
 -- src/lib.rt:93:9
 judge-keys-requires : tie.Need-judge-keys-requires
@@ -74,7 +72,7 @@ element-copy-out-value-8 c = search needs
 
 -- src/lib.rt:97:9
 value-requires-4 : tie.Need-value-requires-4
-value-requires-4 c κs = within (c .before .before .before .before .before .before .before .before .before .before .before .before .before .before .before .args .file .now) (c .before .before .before .before .before .before .before .before .before .before .before .before .before .before .before .args .big) (c .before .before .before .before .before .before .before .before .before .before .before .before .before .before .before .args .at) (c .before .before .before .before .before .before .before .before .before .before .before .before .before .before .before .args .c) (c .before .before .before .before .before .before .before .before .before .before .before .before .before .before .before .args .starts .now) (c .before .before .before .before .before .before .before .before .before .before .before .before .before .before .before .args .lens .now) (c .before .before .before .before .before .before .before .before .before .before .before .before .before .before .before .args .width) (c .before .before .before .before .before .before .before .before .before .before .before .before .before .before .before .args .length) (c .before .before .before .before .before .before .before .before .before .before .before .before .before .before .before .pre) 10 (lit< tt)
+value-requires-4 c κs = within (c .before .before .before .before .before .before .before .before .before .before .before .before .before .before .before .args .file .now) (c .before .before .before .before .before .before .before .before .before .before .before .before .before .before .before .args .big) (c .before .before .before .before .before .before .before .before .before .before .before .before .before .before .before .args .at) (c .before .before .before .before .before .before .before .before .before .before .before .before .before .before .before .args .c) (c .before .before .before .before .before .before .before .before .before .before .before .before .before .before .before .args .starts .now) (c .before .before .before .before .before .before .before .before .before .before .before .before .before .before .before .args .lens .now) (c .before .before .before .before .before .before .before .before .before .before .before .before .before .before .before .args .width) (c .before .before .before .before .before .before .before .before .before .before .before .before .before .before .before .args .length) (c .before .before .before .before .before .before .before .before .before .before .before .before .before .before .before .pre) 14 (lit< tt)
 
 -- src/lib.rt:98:40
 element-copy-out-value-9 : tie.Need-element-copy-out-value-9
@@ -86,7 +84,7 @@ element-copy-out-value-10 c = search needs
 
 -- src/lib.rt:98:9
 value-requires-5 : tie.Need-value-requires-5
-value-requires-5 c κs = within (c .before .before .before .before .before .before .before .before .before .before .before .before .before .before .before .before .before .before .args .file .now) (c .before .before .before .before .before .before .before .before .before .before .before .before .before .before .before .before .before .before .args .big) (c .before .before .before .before .before .before .before .before .before .before .before .before .before .before .before .before .before .before .args .at) (c .before .before .before .before .before .before .before .before .before .before .before .before .before .before .before .before .before .before .args .c) (c .before .before .before .before .before .before .before .before .before .before .before .before .before .before .before .before .before .before .args .starts .now) (c .before .before .before .before .before .before .before .before .before .before .before .before .before .before .before .before .before .before .args .lens .now) (c .before .before .before .before .before .before .before .before .before .before .before .before .before .before .before .before .before .before .args .width) (c .before .before .before .before .before .before .before .before .before .before .before .before .before .before .before .before .before .before .args .length) (c .before .before .before .before .before .before .before .before .before .before .before .before .before .before .before .before .before .before .pre) 11 (lit< tt)
+value-requires-5 c κs = within (c .before .before .before .before .before .before .before .before .before .before .before .before .before .before .before .before .before .before .args .file .now) (c .before .before .before .before .before .before .before .before .before .before .before .before .before .before .before .before .before .before .args .big) (c .before .before .before .before .before .before .before .before .before .before .before .before .before .before .before .before .before .before .args .at) (c .before .before .before .before .before .before .before .before .before .before .before .before .before .before .before .before .before .before .args .c) (c .before .before .before .before .before .before .before .before .before .before .before .before .before .before .before .before .before .before .args .starts .now) (c .before .before .before .before .before .before .before .before .before .before .before .before .before .before .before .before .before .before .args .lens .now) (c .before .before .before .before .before .before .before .before .before .before .before .before .before .before .before .before .before .before .args .width) (c .before .before .before .before .before .before .before .before .before .before .before .before .before .before .before .before .before .before .args .length) (c .before .before .before .before .before .before .before .before .before .before .before .before .before .before .before .before .before .before .pre) 15 (lit< tt)
 
 -- src/lib.rt:99:38
 element-copy-out-value-11 : tie.Need-element-copy-out-value-11
@@ -98,7 +96,7 @@ element-copy-out-value-12 c = search needs
 
 -- src/lib.rt:99:9
 value-requires-6 : tie.Need-value-requires-6
-value-requires-6 c κs = within (c .before .before .before .before .before .before .before .before .before .before .before .before .before .before .before .before .before .before .before .before .before .args .file .now) (c .before .before .before .before .before .before .before .before .before .before .before .before .before .before .before .before .before .before .before .before .before .args .big) (c .before .before .before .before .before .before .before .before .before .before .before .before .before .before .before .before .before .before .before .before .before .args .at) (c .before .before .before .before .before .before .before .before .before .before .before .before .before .before .before .before .before .before .before .before .before .args .c) (c .before .before .before .before .before .before .before .before .before .before .before .before .before .before .before .before .before .before .before .before .before .args .starts .now) (c .before .before .before .before .before .before .before .before .before .before .before .before .before .before .before .before .before .before .before .before .before .args .lens .now) (c .before .before .before .before .before .before .before .before .before .before .before .before .before .before .before .before .before .before .before .before .before .args .width) (c .before .before .before .before .before .before .before .before .before .before .before .before .before .before .before .before .before .before .before .before .before .args .length) (c .before .before .before .before .before .before .before .before .before .before .before .before .before .before .before .before .before .before .before .before .before .pre) 12 (lit< tt)
+value-requires-6 c κs = within (c .before .before .before .before .before .before .before .before .before .before .before .before .before .before .before .before .before .before .before .before .before .args .file .now) (c .before .before .before .before .before .before .before .before .before .before .before .before .before .before .before .before .before .before .before .before .before .args .big) (c .before .before .before .before .before .before .before .before .before .before .before .before .before .before .before .before .before .before .before .before .before .args .at) (c .before .before .before .before .before .before .before .before .before .before .before .before .before .before .before .before .before .before .before .before .before .args .c) (c .before .before .before .before .before .before .before .before .before .before .before .before .before .before .before .before .before .before .before .before .before .args .starts .now) (c .before .before .before .before .before .before .before .before .before .before .before .before .before .before .before .before .before .before .before .before .before .args .lens .now) (c .before .before .before .before .before .before .before .before .before .before .before .before .before .before .before .before .before .before .before .before .before .args .width) (c .before .before .before .before .before .before .before .before .before .before .before .before .before .before .before .before .before .before .before .before .before .args .length) (c .before .before .before .before .before .before .before .before .before .before .before .before .before .before .before .before .before .before .before .before .before .pre) 16 (lit< tt)
 
 -- src/lib.rt:100:9
 judge-ground-requires : tie.Need-judge-ground-requires

@@ -131,7 +131,7 @@ loop-less-2 c = omega arith
 loop-again-2 : tie.Need-loop-again-2 Inv-loop μ-loop
 loop-again-2 c = let p : 0 < c .before .before .before .before .before .before .before .loop .i = omega arith in
     let q : c .before .before .before .before .before .before .before .loop .i ≤ c .before .before .before .before .before .before .before .before .before .args .c = c .before .before .before .before .before .before .before .loop .inv .0 in
-    let none = cell-none (c .before .before .before .before .before .entry-at .result .tag) (sym (c .before .is-listed .ensures) ∙ c .if1 .left) in let out : 17 ≤ indexOf (c .before .before .before .before .before .entry-at .result .tag) tags = omega (arith, none) in (
+    let none = cell-none (c .before .before .before .before .before .entry-at .result .tag) (sym (c .before .is-listed .ensures) ∙ c .if1 .left) in let out : 21 ≤ indexOf (c .before .before .before .before .before .entry-at .result .tag) tags = omega (arith, none) in (
       omega arith,
       c .before .before .before .before .before .before .before .loop .inv .1 ∙ typs-out (c .before .before .before .before .before .before .before .before .before .args .big) (c .before .before .before .before .before .before .before .before .before .args .at) (c .before .before .before .before .before .before .before .before .before .args .c) (c .before .before .before .before .before .before .before .before .before .args .dir .now) (c .before .before .before .before .before .before .before .loop .i) p q (c .before .before .before .before .before .entry-at .result) (c .before .before .before .before .before .entry-at .ensures .0) out,
       c .before .before .before .before .before .before .before .loop .inv .2 ∙ counts-out (c .before .before .before .before .before .before .before .before .before .args .big) (c .before .before .before .before .before .before .before .before .before .args .at) (c .before .before .before .before .before .before .before .before .before .args .c) (c .before .before .before .before .before .before .before .before .before .args .dir .now) (c .before .before .before .before .before .before .before .loop .i) p q (c .before .before .before .before .before .entry-at .result) (c .before .before .before .before .before .entry-at .ensures .0) out,

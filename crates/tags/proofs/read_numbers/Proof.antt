@@ -1,4 +1,5 @@
 -- `read_numbers` fetches each value of a tag with one number. Assumes nothing.
+use native.Mathlib.Omega.{arith}
 use Rattle.tags.specs.Numbers.{numbersIn}
 use borrow.Author.Needs.{needs}
 use Rattle.tags.proofs.read_numbers.Statement.{statement}
@@ -40,24 +41,48 @@ element-copy-out-short-at-3 c = search needs
 short-at-requires-3 : tie.Need-short-at-requires-3
 short-at-requires-3 c κs = search needs
 
-element-copy-out-number-at-5 : tie.Need-element-copy-out-number-at-5
-element-copy-out-number-at-5 c = search needs
+element-copy-out-number-if : tie.Need-element-copy-out-number-if
+element-copy-out-number-if c = search needs
 
-element-copy-out-number-at-6 : tie.Need-element-copy-out-number-at-6
-element-copy-out-number-at-6 c = search needs
+element-copy-out-number-if-2 : tie.Need-element-copy-out-number-if-2
+element-copy-out-number-if-2 c = search needs
 
-number-at-requires-3 : tie.Need-number-at-requires-3
-number-at-requires-3 c κs = search needs
+number-if-requires : tie.Need-number-if-requires
+number-if-requires c κs = search needs
 
-element-copy-out-planar-at : tie.Need-element-copy-out-planar-at
-element-copy-out-planar-at c = search needs
+element-copy-out-number-if-3 : tie.Need-element-copy-out-number-if-3
+element-copy-out-number-if-3 c = search needs
 
-planar-at-requires : tie.Need-planar-at-requires
-planar-at-requires c κs = search needs
+element-copy-out-number-if-4 : tie.Need-element-copy-out-number-if-4
+element-copy-out-number-if-4 c = search needs
+
+element-copy-out-number-if-5 : tie.Need-element-copy-out-number-if-5
+element-copy-out-number-if-5 c = search needs
+
+number-if-requires-2 : tie.Need-number-if-requires-2
+number-if-requires-2 c κs = search needs
+
+element-copy-out-number-if-6 : tie.Need-element-copy-out-number-if-6
+element-copy-out-number-if-6 c = search needs
+
+element-copy-out-number-if-7 : tie.Need-element-copy-out-number-if-7
+element-copy-out-number-if-7 c = search needs
+
+number-if-requires-3 : tie.Need-number-if-requires-3
+number-if-requires-3 c κs = search needs
+
+element-copy-out-number-if-8 : tie.Need-element-copy-out-number-if-8
+element-copy-out-number-if-8 c = search needs
+
+element-copy-out-number-if-9 : tie.Need-element-copy-out-number-if-9
+element-copy-out-number-if-9 c = search needs
+
+number-if-requires-4 : tie.Need-number-if-requires-4
+number-if-requires-4 c κs = ((c .before .before .before .before .before .before .before .before .before .before .before .before .before .before .before .before .before .before .before .before .before .before .before .before .before .pre) .tilelength, omega arith)
 
 returns : tie.Need-returns
 unfolding numbersIn
-returns c = (rw (c .before .before .before .before .before .before .before .before .before .before .before .before .before .before .number-at .ensures .0, c .before .before .before .before .before .before .before .before .before .before .before .number-at2 .ensures .0, c .before .before .number-at3 .ensures .0, c .before .before .before .before .before .before .before .before .before .short-at .ensures .0, c .before .before .before .before .before .before .before .short-at2 .ensures .0, c .before .before .before .before .before .short-at3 .ensures .0, c .planar-at .ensures), c .before .before .before .before .before .before .before .before .before .before .before .before .before .before .number-at .ensures .1, c .before .before .before .before .before .before .before .before .before .before .before .number-at2 .ensures .1, c .before .before .number-at3 .ensures .1)
+returns c = (rw (c .before .before .before .before .before .before .before .before .before .before .before .before .before .before .before .before .before .before .before .before .before .before .number-at .ensures .0, c .before .before .before .before .before .before .before .before .before .before .before .before .before .before .before .before .before .before .before .number-at2 .ensures .0, c .before .before .before .before .before .before .before .before .before .before .before .before .before .before .before .before .before .short-at .ensures .0, c .before .before .before .before .before .before .before .before .before .before .before .before .before .before .before .short-at2 .ensures .0, c .before .before .before .before .before .before .before .before .before .before .before .before .before .short-at3 .ensures .0, c .before .before .before .before .before .before .before .before .before .before .number-if .ensures .0, c .before .before .before .before .before .before .number-if2 .ensures .0, c .before .before .before .number-if3 .ensures .0, c .number-if4 .ensures .0), record { width = c .before .before .before .before .before .before .before .before .before .before .before .before .before .before .before .before .before .before .before .before .before .before .number-at .ensures .1; length = c .before .before .before .before .before .before .before .before .before .before .before .before .before .before .before .before .before .before .before .number-at2 .ensures .1; rows = c .before .before .before .before .before .before .before .before .before .before .number-if .ensures .1; tilewidth = c .before .before .before .number-if3 .ensures .1; tilelength = c .number-if4 .ensures .1 })
 
 pub read-numbers-spec : {M : Type 1} → statement M
 read-numbers-spec =
@@ -75,9 +100,17 @@ read-numbers-spec =
     short-at-requires-2
     element-copy-out-short-at-3
     short-at-requires-3
-    element-copy-out-number-at-5
-    element-copy-out-number-at-6
-    number-at-requires-3
-    element-copy-out-planar-at
-    planar-at-requires
+    element-copy-out-number-if
+    element-copy-out-number-if-2
+    number-if-requires
+    element-copy-out-number-if-3
+    element-copy-out-number-if-4
+    element-copy-out-number-if-5
+    number-if-requires-2
+    element-copy-out-number-if-6
+    element-copy-out-number-if-7
+    number-if-requires-3
+    element-copy-out-number-if-8
+    element-copy-out-number-if-9
+    number-if-requires-4
     returns)

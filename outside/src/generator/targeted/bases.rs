@@ -3,11 +3,14 @@
 use crate::generator::keyplan::{Held, Keys};
 use crate::generator::plan::{Plan, Tag};
 use crate::generator::prng::Random;
+use crate::reader::tables::{Family, Need, TagRow, TAGS};
 use crate::reader::Order;
 
-/// Draws base plans of one byte order; all of them keep every rule.
+/// Draws base plans of one byte order and one family of pieces; all of them
+/// keep every rule.
 pub struct Bases {
     pub order: Order,
+    pub family: Family,
     pub random: Random,
 }
 
@@ -47,37 +50,81 @@ impl Bases {
         plan
     }
 
-    /// The needed tags, one strip, scale and tiepoint, three keys.
+    /// The needed tags, one piece, scale and tiepoint, three keys.
     pub fn plain(&mut self) -> Plan {
         let mut plan = self.empty();
-        for (tag, number) in [(256, 4), (257, 2), (258, 8), (259, 1), (262, 1), (277, 1), (278, 2)]
-        {
+        for (tag, number) in [(256, 4), (257, 2), (258, 8), (259, 1), (262, 1), (277, 1)] {
             plan.set(Tag::shorts(tag, &[number]));
         }
-        plan.set_strips(&[8], (self.random.chance(50), self.random.chance(50)));
+        for (tag, number) in self.piece_sizes() {
+            plan.set(Tag::shorts(tag, &[number]));
+        }
+        let wide = (self.family == Family::Tiles || self.random.chance(50), self.random.chance(50));
+        plan.set_pieces(self.family, &[8], wide);
         plan.set(Tag::doubles(33550, &[0.5, 0.5, 0.0]));
         plan.set(Tag::doubles(33922, &[0.0, 0.0, 0.0, 500_000.0, 4_000_000.0, 0.0]));
         plan.set_keys(&few_keys().encode());
         plan
     }
 
-    /// Every tag of the table but the matrix, three strips of three samples,
-    /// keys of every kind, and tags outside the table.
+    /// Every tag of the table but the matrix and the other family's, three
+    /// pieces of three samples, keys of every kind, and tags outside the table.
     pub fn rich(&mut self) -> Plan {
         let mut plan = self.plain();
         plan.set(Tag::longs(256, &[6]));
         plan.set(Tag::longs(257, &[5]));
         plan.set(Tag::shorts(258, &[8, 8, 8]));
         plan.set(Tag::shorts(262, &[2]));
+        plan.set(Tag::bytes(270, 2, b"a sheet\0"));
         plan.set(Tag::shorts(277, &[3]));
-        plan.set_strips(&[12, 9, 7], (true, true));
+        self.cut(&mut plan, &[12, 9, 7]);
         plan.set(Tag::shorts(284, &[1]));
         plan.set(Tag::bytes(305, 2, b"a writer\0"));
+        plan.set(Tag::shorts(320, &[16]));
         plan.set_keys(&many_keys().encode());
         plan.set(Tag::bytes(50909, 1, b"<metadata/>"));
         plan.set(Tag::raw(65000, 13, 0, [0xFF, 0xFF, 0xFF, 0xFF]));
         plan.set(Tag::longs(65001, &[0x0101_0101]));
         plan
+    }
+
+    /// The tags that give the size of a piece, with the plain file's numbers.
+    pub fn piece_sizes(&self) -> Vec<(u16, u16)> {
+        match self.family {
+            Family::Strips => vec![(278, 2)],
+            Family::Tiles => vec![(322, 16), (323, 16)],
+        }
+    }
+
+    /// Cuts the picture into pieces of these byte counts, the last of them not
+    /// full; offsets and byte counts are LONG.
+    pub fn cut(&self, plan: &mut Plan, counts: &[u32]) {
+        let pieces = counts.len() as u32;
+        plan.set(match self.family {
+            Family::Strips => Tag::longs(257, &[2 * pieces - 1]),
+            Family::Tiles => Tag::longs(256, &[16 * pieces - 8]),
+        });
+        plan.set_pieces(self.family, counts, (true, true));
+    }
+
+    /// Makes a piece as large as can be, so that it holds any picture.
+    pub fn one_piece(&self, plan: &mut Plan) {
+        match self.family {
+            Family::Strips => plan.set(Tag::longs(278, &[u32::MAX])),
+            Family::Tiles => {
+                plan.set(Tag::longs(322, &[u32::MAX - 15]));
+                plan.set(Tag::longs(323, &[u32::MAX - 15]));
+            }
+        }
+    }
+
+    /// The rows of the table without those of the other family.
+    pub fn rows(&self) -> impl Iterator<Item = &'static TagRow> {
+        let family = self.family;
+        TAGS.iter().filter(move |row| match row.need {
+            Need::In(other) => other == family,
+            _ => true,
+        })
     }
 
     /// The plain file with a matrix instead of scale and tiepoint.

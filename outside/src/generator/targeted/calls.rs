@@ -1,9 +1,11 @@
 //! Rules 23 to 26: rows, key block and citation of accepted files, and that
-//! each call gives rules 1 to 22 first.
+//! each call gives rules 1 to 22 and 27 first.
 
 use super::bases::{few_keys, many_keys, Bases};
 use super::{Call, Cases};
 use crate::generator::keyplan::{Held, Keys};
+use crate::generator::plan::Tag;
+use crate::reader::tables::Family;
 
 pub fn cases(bases: &mut Bases, cases: &mut Cases) {
     rows(bases, cases);
@@ -119,14 +121,20 @@ fn citations(bases: &mut Bases, cases: &mut Cases) {
 
 /// A refused file is refused by its own rule in every call.
 fn earlier_rules_first(bases: &mut Bases, cases: &mut Cases) {
-    let mut laid = bases.rich().lay();
-    laid.put_double(laid.spot(33550).value, 0);
-    let clause = "21 33550 X not above 0";
-    for call in [Call::Rows(0), Call::Rows(256), Call::Citation(7), Call::Citation(1026)] {
-        cases.add(clause, true, call, laid.bytes.clone(), (21, 33550));
-    }
-    for room in [0, 65_536] {
-        cases.add(clause, true, Call::Block(room), laid.bytes.clone(), (21, 33550));
+    let mut scaled = bases.rich().lay();
+    scaled.put_double(scaled.spot(33550).value, 0);
+    let mut mixed = bases.rich();
+    mixed.set(Tag::longs(if bases.family == Family::Strips { 323 } else { 279 }, &[16]));
+    for (clause, file, want) in [
+        ("21 33550 X not above 0", scaled.bytes, (21, 33550)),
+        ("27 both families", mixed.lay().bytes, (27, 0)),
+    ] {
+        for call in [Call::Rows(0), Call::Rows(256), Call::Citation(7), Call::Citation(1026)] {
+            cases.add(clause, true, call, file.clone(), want);
+        }
+        for room in [0, 65_536] {
+            cases.add(clause, true, Call::Block(room), file.clone(), want);
+        }
     }
     let empty = Vec::new();
     for call in [Call::Rows(0), Call::Citation(1026), Call::Block(0)] {

@@ -96,7 +96,7 @@ impl Ground {
         }
         plan.set(Tag::shorts(256, &[self.size.0]));
         plan.set(Tag::shorts(257, &[self.size.1]));
-        plan.set(Tag::longs(278, &[u32::MAX]));
+        bases.one_piece(&mut plan);
         plan.set_keys(&few_keys().with(1025, Held::Number(self.raster)).encode());
         plan.lay().bytes
     }

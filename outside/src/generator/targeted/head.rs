@@ -2,7 +2,7 @@
 
 use super::bases::Bases;
 use super::Cases;
-use crate::generator::plan::{Laid, Piece, Plan, Tag};
+use crate::generator::plan::{Laid, Part, Plan, Tag};
 use crate::reader::Order;
 
 pub fn cases(bases: &mut Bases, cases: &mut Cases) {
@@ -48,7 +48,7 @@ fn offset(laid: &Laid, number: usize) -> Vec<u8> {
 
 fn offsets(bases: &mut Bases, cases: &mut Cases) {
     let mut plan = bases.plain();
-    (plan.first, plan.gap) = (vec![Piece::Directory], (0, 0));
+    (plan.first, plan.gap) = (vec![Part::Directory], (0, 0));
     let mut laid = plan.lay();
     cases.kept("4 odd", laid.bytes.clone());
     cases.kept("4 below 8", laid.bytes.clone());
@@ -99,13 +99,13 @@ fn counts(bases: &mut Bases, cases: &mut Cases) {
     one.bytes.resize(8 + 2 + 12 + 4, 0);
     one.put_short(8, 1);
     one.put_short(10, 1);
-    cases.kept_until("5 c is 0", one.bytes, 9, 256);
+    cases.kept_until("5 c is 0", one.bytes, 27, 0);
 }
 
-/// The directory as the last piece of the file.
+/// The directory as the last part of the file.
 fn directory_end(bases: &mut Bases, cases: &mut Cases) {
     let mut plan = bases.plain();
-    (plan.last, plan.gap) = (vec![Piece::Directory], (0, 0));
+    (plan.last, plan.gap) = (vec![Part::Directory], (0, 0));
     let laid = plan.lay();
     cases.kept("5 past n", laid.bytes.clone());
     for cut in [1, 2, 4, 5, 12, 16] {

@@ -8,6 +8,7 @@ mod numbers;
 use super::bases::Bases;
 use super::{rule_of, Call, Cases};
 use crate::generator::keyplan::Encoded;
+use crate::reader::tables::Family;
 use crate::reader::Order;
 
 pub fn cases(bases: &mut Bases, cases: &mut Cases) {
@@ -28,7 +29,7 @@ impl KeyBench<'_> {
         let mut plan = self.bases.plain();
         plan.set_keys(keys);
         self.cases.add(clause, broken, Call::Judge, plan.lay().bytes, want);
-        if self.bases.order == Order::Little {
+        if self.bases.order == Order::Little && self.bases.family == Family::Strips {
             let clause = format!("block {clause}");
             self.cases.add(&clause, broken, Call::ReadBlock(keys.runs()), Vec::new(), want);
         }

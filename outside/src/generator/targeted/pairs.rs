@@ -1,15 +1,16 @@
-//! Two rules broken at once in one file: the one of lower number is named. And
-//! tags of rule 12 at fault together: the lowest is named.
+//! Two rules broken at once in one file: the one of lower number is named, 27
+//! between 8 and 9. And tags of rule 12 at fault together: the lowest is named.
 
 use super::bases::Bases;
 use super::Cases;
 use crate::generator::plan::{Laid, Plan, Tag};
+use crate::reader::tables::Family;
 
-/// A clause, its place, and how to break it without touching the others.
+/// A clause, "piece" in it for the word of the family; its place, and how to break it without touching the others.
 type Damage = (&'static str, u32, fn(&mut Laid));
 
-/// One damage for each rule, in order of number, on the rich file.
-const DAMAGES: [Damage; 21] = [
+/// One damage for each rule, in their order, on the rich file.
+const DAMAGES: [Damage; 22] = [
     ("2 neither order", 0, |laid| laid.bytes[0] = 0),
     ("3 not 42", 0, |laid| laid.put_short(2, 43)),
     ("4 odd", 0, |laid| laid.put_long(4, 9)),
@@ -17,12 +18,18 @@ const DAMAGES: [Damage; 21] = [
     ("6 equal tag", 65_000, |laid| laid.put_short(laid.spot(65_001).entry, 65_000)),
     ("7 type 2 count 0", 305, |laid| laid.put_long(laid.spot(305).entry + 4, 0)),
     ("8 next offset", 0, |laid| laid.put_long(laid.directory + 2 + 12 * laid.spots.len(), 8)),
+    ("27 both families", 0, |laid| {
+        let (from, to) = if laid.tiled() { (270, 273) } else { (320, 322) };
+        laid.put_short(laid.spot(from).entry, to);
+    }),
     ("9 256 absent", 256, |laid| laid.put_short(laid.spot(256).entry, 255)),
     ("10 257 type", 257, |laid| laid.put_short(laid.spot(257).entry + 2, 13)),
     ("11 262 above", 262, |laid| laid.put_short(laid.spot(262).value, 4)),
     ("12 258 values differ", 258, |laid| laid.put_short(laid.spot(258).value + 4, 16)),
-    ("13 byte count 0", 1, |laid| laid.put_long(laid.spot(279).value + 4, 0)),
-    ("14 directory", 0, |laid| laid.put_long(laid.spot(273).value, laid.directory as u32)),
+    ("13 piece byte count 0", 1, |laid| laid.put_long(laid.places().1.value + 4, 0)),
+    ("14 piece on directory", 0, |laid| {
+        laid.put_long(laid.places().0.value, laid.directory as u32);
+    }),
     ("15 third number", 0, |laid| laid.put_short(laid.spot(34735).value + 4, 1)),
     ("16 equal key", 60_002, |laid| put_key(laid, 11, 0, 60_002)),
     ("17 ASCII location", 1026, |laid| put_key(laid, 2, 1, 7)),
@@ -42,19 +49,30 @@ fn put_key(laid: &mut Laid, position: usize, column: usize, number: u16) {
 }
 
 /// A tag of rule 12, two clauses that it can break, and how to break each in a
-/// file of three samples and five strips without mending the others.
-type Disagreement = (u32, [&'static str; 2], fn(&mut Plan, usize));
+/// file of three samples and five pieces without mending the others.
+type Disagreement = (u16, [&'static str; 2], fn(&mut Plan, usize));
 
-const DISAGREEMENTS: [Disagreement; 4] = [
+/// Those of the picture, whatever its pieces.
+const OF_PICTURE: [Disagreement; 2] = [
     (258, ["12 258 count is not samples", "12 258 values differ"], |plan, way| {
         plan.set(Tag::shorts(258, [&[8, 8][..], &[8, 8, 16]][way]));
     }),
     (259, ["12 259 is 2, bits not 1", "12 259 is 32773, bits not 1"], |plan, way| {
         plan.set(Tag::shorts(259, &[[2, 32_773][way]]));
     }),
+];
+
+const OF_STRIPS: [Disagreement; 2] = [
     (273, ["12 273 too few", "12 273 too many"], |plan, way| plan.find(273).count = [4, 6][way]),
     (279, ["12 279 too few", "12 279 too many"], |plan, way| {
         plan.set(Tag::longs(279, &vec![1; [4, 6][way]]));
+    }),
+];
+
+const OF_TILES: [Disagreement; 2] = [
+    (324, ["12 324 too few", "12 324 too many"], |plan, way| plan.find(324).count = [4, 6][way]),
+    (325, ["12 325 too few", "12 325 too many"], |plan, way| {
+        plan.set(Tag::longs(325, &vec![1; [4, 6][way]]));
     }),
 ];
 
@@ -66,17 +84,18 @@ pub fn cases(bases: &mut Bases, cases: &mut Cases) {
 /// Every choice of two, three or four of rule 12's tags, each in both ways; the
 /// bits of `chosen` say which tags, those of `ways` in which way.
 fn tags_together(bases: &mut Bases, cases: &mut Cases) {
+    let of_pieces = if bases.family == Family::Strips { OF_STRIPS } else { OF_TILES };
+    let disagreements = [OF_PICTURE, of_pieces].concat();
     for chosen in (1_usize..16).filter(|chosen| chosen.count_ones() > 1) {
         for ways in (0..16).filter(|ways| ways & !chosen == 0) {
             let mut plan = bases.rich();
-            plan.set(Tag::longs(257, &[9]));
-            plan.set_strips(&[12, 9, 7, 5, 3], (true, true));
+            bases.cut(&mut plan, &[12, 9, 7, 5, 3]);
             for at in (0..4).filter(|at| chosen >> at & 1 == 1) {
-                DISAGREEMENTS[at].2(&mut plan, ways >> at & 1);
+                disagreements[at].2(&mut plan, ways >> at & 1);
             }
             let lowest = chosen.trailing_zeros() as usize;
-            let (tag, clauses, _) = DISAGREEMENTS[lowest];
-            cases.broken(clauses[ways >> lowest & 1], plan.lay().bytes, tag);
+            let (tag, clauses, _) = disagreements[lowest];
+            cases.broken(clauses[ways >> lowest & 1], plan.lay().bytes, u32::from(tag));
         }
     }
 }
@@ -84,11 +103,12 @@ fn tags_together(bases: &mut Bases, cases: &mut Cases) {
 /// Each rule with itself alone, and with each later one.
 fn rules_together(bases: &mut Bases, cases: &mut Cases) {
     for (at, (clause, place, first)) in DAMAGES.iter().enumerate() {
+        let clause = clause.replace("piece", bases.family.word());
         for (_, _, second) in &DAMAGES[at..] {
             let mut laid = bases.rich().lay();
             second(&mut laid);
             first(&mut laid);
-            cases.broken(clause, laid.bytes, *place);
+            cases.broken(&clause, laid.bytes, *place);
         }
     }
 }

@@ -3,10 +3,11 @@
 use super::bases::Bases;
 use super::Cases;
 use crate::generator::plan::{Plan, Tag};
-use crate::reader::tables::{Count, TagRow, TAGS};
+use crate::reader::tables::{Count, Family, Need, TagRow};
 
 pub fn cases(bases: &mut Bases, cases: &mut Cases) {
     absent(bases, cases);
+    absent_together(bases, cases);
     types(bases, cases);
     types_together(bases, cases);
     counts(bases, cases);
@@ -15,30 +16,63 @@ pub fn cases(bases: &mut Bases, cases: &mut Cases) {
     values_together(bases, cases);
     bits_and_samples(bases, cases);
     compression(bases, cases);
-    strip_counts(bases, cases);
-    strips_rounded_up(bases, cases);
+    piece_counts(bases, cases);
+    match bases.family {
+        Family::Strips => strips_rounded_up(bases, cases),
+        Family::Tiles => tiles_rounded_up(bases, cases),
+    }
 }
 
+/// The needed tags, lowest first.
+fn needed(bases: &Bases) -> Vec<u16> {
+    bases.rows().filter(|row| row.need != Need::Never).map(|row| row.tag).collect()
+}
+
+/// Each needed tag absent, alone and with all later ones, of which one of the
+/// family stays.
 fn absent(bases: &mut Bases, cases: &mut Cases) {
-    let needed: Vec<u16> = TAGS.iter().filter(|row| row.needed).map(|row| row.tag).collect();
+    let needed = needed(bases);
+    let (_, stays) = bases.family.places();
     for (at, &tag) in needed.iter().enumerate() {
         let clause = format!("9 {tag} absent");
         cases.kept(&clause, bases.plain().lay().bytes);
         for mut plan in [bases.plain(), bases.rich()] {
             plan.remove(tag);
             cases.broken(&clause, plan.lay().bytes, u32::from(tag));
-            needed[at..].iter().for_each(|&later| plan.remove(later));
+            let later = needed[at..].iter().filter(|later| **later != stays);
+            later.for_each(|&later| plan.remove(later));
             cases.broken(&clause, plan.lay().bytes, u32::from(tag));
         }
     }
     for tag in [284, 50909] {
         let mut plan = bases.rich();
         plan.remove(tag);
-        cases.kept("9 279 absent", plan.lay().bytes);
+        cases.kept(&format!("9 {stays} absent"), plan.lay().bytes);
     }
     let mut renamed = bases.rich().lay();
     renamed.put_short(renamed.spots[0].entry, 255);
     cases.broken("9 256 absent", renamed.bytes, 256);
+}
+
+/// A part of the family: each of its tags absent with each other needed tag,
+/// and each of its tags left alone. The lowest absent one is named.
+fn absent_together(bases: &mut Bases, cases: &mut Cases) {
+    let own: Vec<u16> = bases.family.tags().collect();
+    let without = |bases: &mut Bases, absent: &[u16]| {
+        let mut plan = bases.rich();
+        absent.iter().for_each(|&tag| plan.remove(tag));
+        plan.lay().bytes
+    };
+    for &tag in &own {
+        for other in needed(bases).into_iter().filter(|other| *other != tag) {
+            let lowest = tag.min(other);
+            let file = without(bases, &[tag, other]);
+            cases.broken(&format!("9 {lowest} absent"), file, u32::from(lowest));
+        }
+        let others: Vec<u16> = own.iter().copied().filter(|other| *other != tag).collect();
+        let file = without(bases, &others);
+        cases.broken(&format!("9 {} absent", others[0]), file, u32::from(others[0]));
+    }
 }
 
 /// A base that has the tag.
@@ -63,7 +97,7 @@ fn zeros(tag: u16, kind: u16, count: u32) -> Tag {
 }
 
 fn types(bases: &mut Bases, cases: &mut Cases) {
-    for row in &TAGS {
+    for row in bases.rows() {
         let clause = format!("10 {} type", row.tag);
         for kind in (0..=14).chain([0x0300, 65_535]).filter(|kind| !row.kinds.contains(kind)) {
             let mut plan = base_with(bases, row.tag);
@@ -73,24 +107,36 @@ fn types(bases: &mut Bases, cases: &mut Cases) {
         }
         cases.kept(&clause, base_with(bases, row.tag).lay().bytes);
     }
-    for (tag, number) in [(256, 6), (257, 5), (278, 2)] {
+    for (tag, number) in [(256, 4), (257, 2)].into_iter().chain(bases.piece_sizes()) {
         for wide in [false, true] {
-            let mut plan = bases.rich();
-            plan.set(Tag::numbers(tag, wide, &[number]));
+            let mut plan = bases.plain();
+            plan.set(Tag::numbers(tag, wide, &[u32::from(number)]));
             cases.kept(&format!("10 {tag} type"), plan.lay().bytes);
         }
     }
+    types_of_places(bases, cases);
+}
+
+/// Offsets and byte counts as SHORT and as LONG; the offsets of tiles are LONG
+/// alone.
+fn types_of_places(bases: &mut Bases, cases: &mut Cases) {
+    let (offsets, byte_counts) = bases.family.places();
     for wide in [(false, false), (false, true), (true, false), (true, true)] {
         let mut plan = bases.rich();
-        plan.set_strips(&[3, 1, 4], wide);
-        cases.kept("10 273 type", plan.lay().bytes.clone());
-        cases.kept("10 279 type", plan.lay().bytes);
+        plan.set_pieces(bases.family, &[3, 1, 4], wide);
+        let file = plan.lay().bytes;
+        if bases.family == Family::Tiles && !wide.0 {
+            cases.broken("10 324 type", file, 324);
+        } else {
+            cases.kept(&format!("10 {offsets} type"), file.clone());
+            cases.kept(&format!("10 {byte_counts} type"), file);
+        }
     }
 }
 
 /// Two neighbours of another type: the lower one is named.
 fn types_together(bases: &mut Bases, cases: &mut Cases) {
-    let rows: Vec<&TagRow> = TAGS.iter().filter(|row| row.tag != 34264).collect();
+    let rows: Vec<&TagRow> = bases.rows().filter(|row| row.tag != 34264).collect();
     for pair in rows.windows(2) {
         let mut plan = bases.rich();
         plan.find(pair[0].tag).kind = 13;
@@ -101,7 +147,7 @@ fn types_together(bases: &mut Bases, cases: &mut Cases) {
 }
 
 fn counts(bases: &mut Bases, cases: &mut Cases) {
-    for row in &TAGS {
+    for row in bases.rows() {
         let clause = format!("10 {} count", row.tag);
         let wrong: Vec<u32> = match row.count {
             Count::Exactly(1) => vec![2, 3, 256],
@@ -129,7 +175,7 @@ fn with_value(bases: &mut Bases, tag: u16, number: u32, wide: bool, allowed: boo
     let mut plan = bases.plain();
     plan.set(Tag::numbers(tag, wide, &[number]));
     match tag {
-        257 => plan.set(Tag::longs(278, &[u32::MAX])),
+        256 | 257 => bases.one_piece(&mut plan),
         259 if allowed && number != 1 => plan.set(Tag::shorts(258, &[1])),
         277 if allowed => plan.set(Tag::shorts(258, &vec![8; number as usize])),
         278 if allowed => plan.set(Tag::shorts(257, &[1])),
@@ -138,10 +184,16 @@ fn with_value(bases: &mut Bases, tag: u16, number: u32, wide: bool, allowed: boo
     plan.lay().bytes
 }
 
-/// Tag, side, numbers beyond the bound, numbers just within.
+/// Tag, fault, numbers beyond the bound, numbers just within.
 type Bound = (u16, &'static str, &'static [u32], &'static [u32]);
 
-const BOUNDS: [Bound; 16] = [
+/// Numbers around multiples of 16, as SHORT and as LONG.
+const NO_SIXTEENS: &[u32] =
+    &[1, 8, 15, 17, 24, 31, 33, 65_519, 65_535, 65_537, u32::MAX - 16, u32::MAX - 14, u32::MAX];
+const SIXTEENS: &[u32] =
+    &[16, 32, 48, 65_520, 65_536, 1_000_000, 1 << 31, u32::MAX - 31, u32::MAX - 15];
+
+const BOUNDS: [Bound; 20] = [
     (256, "below", &[0], &[1, 2]),
     (256, "above", &[1_000_001, 16_777_216, u32::MAX], &[1_000_000, 65_536]),
     (257, "below", &[0], &[1, 2]),
@@ -158,12 +210,17 @@ const BOUNDS: [Bound; 16] = [
     (278, "below", &[0], &[1, 2, 65_535, 65_536, u32::MAX]),
     (284, "below", &[0], &[1]),
     (284, "above", &[2, 256, 65_535], &[1]),
+    (322, "not positive", &[0], &[16]),
+    (322, "not a multiple of 16", NO_SIXTEENS, SIXTEENS),
+    (323, "not positive", &[0], &[16]),
+    (323, "not a multiple of 16", NO_SIXTEENS, SIXTEENS),
 ];
 
 fn values(bases: &mut Bases, cases: &mut Cases) {
-    for (tag, side, beyond, within) in BOUNDS {
+    let known: Vec<u16> = bases.rows().map(|row| row.tag).collect();
+    for (tag, side, beyond, within) in BOUNDS.into_iter().filter(|bound| known.contains(&bound.0)) {
         let clause = format!("11 {tag} {side}");
-        let long = matches!(tag, 256 | 257 | 278);
+        let long = matches!(tag, 256 | 257 | 278 | 322 | 323);
         let forms = |number: u32| [(false, number < 65_536), (true, long)].into_iter();
         for &number in beyond {
             for (wide, _) in forms(number).filter(|(_, fits)| *fits) {
@@ -197,8 +254,13 @@ fn values_of_bits(bases: &mut Bases, cases: &mut Cases) {
 /// Two values not allowed: the lower tag is named.
 fn values_together(bases: &mut Bases, cases: &mut Cases) {
     let faults = [(256, "below"), (257, "below"), (258, "below"), (259, "below"), (262, "above")];
-    let more = [(277, "below"), (278, "below"), (284, "below")];
-    let faults: Vec<(u16, &str)> = faults.into_iter().chain(more).collect();
+    let more: &[(u16, &str)] = match bases.family {
+        Family::Strips => &[(277, "below"), (278, "below"), (284, "below")],
+        Family::Tiles => {
+            &[(277, "below"), (284, "below"), (322, "not positive"), (323, "not positive")]
+        }
+    };
+    let faults: Vec<(u16, &str)> = faults.into_iter().chain(more.iter().copied()).collect();
     for pair in faults.windows(2) {
         let mut plan = bases.rich();
         for &(tag, _) in pair {
@@ -260,19 +322,20 @@ fn compression(bases: &mut Bases, cases: &mut Cases) {
 }
 
 /// Offsets and byte counts each one too few or one too many.
-fn strip_counts(bases: &mut Bases, cases: &mut Cases) {
-    for (tag, other) in [(273, 279), (279, 273)] {
+fn piece_counts(bases: &mut Bases, cases: &mut Cases) {
+    let (offsets, byte_counts) = bases.family.places();
+    for (tag, other) in [(offsets, byte_counts), (byte_counts, offsets)] {
         for (count, what) in [(1, "few"), (2, "few"), (4, "many"), (5, "many")] {
             let mut plan = bases.rich();
             plan.find(tag).count = count;
-            if tag == 279 {
-                plan.set(Tag::longs(279, &vec![1; count as usize]));
+            if tag == byte_counts {
+                plan.set(Tag::longs(byte_counts, &vec![1; count as usize]));
             }
             let clause = format!("12 {tag} too {what}");
             cases.broken(&clause, plan.lay().bytes, u32::from(tag));
-            plan.set_strips(&vec![1; count as usize], (true, true));
-            let both = format!("12 273 too {what}");
-            cases.broken(&both, plan.lay().bytes, 273);
+            plan.set_pieces(bases.family, &vec![1; count as usize], (true, true));
+            let both = format!("12 {offsets} too {what}");
+            cases.broken(&both, plan.lay().bytes, u32::from(offsets));
             cases.kept(&clause, bases.rich().lay().bytes);
             cases.kept(&format!("12 {other} too {what}"), bases.rich().lay().bytes);
         }
@@ -285,18 +348,60 @@ fn strips_rounded_up(bases: &mut Bases, cases: &mut Cases) {
         [(5, 1, 5), (5, 2, 3), (5, 4, 2), (5, 5, 1), (5, 6, 1), (4, 2, 2), (6, 2, 3), (1, 1, 1)];
     let far = [(1_000_000, u32::MAX, 1), (1_000_000, 999_999, 2), (65_537, 65_536, 2)];
     for (length, rows, strips) in of.into_iter().chain(far) {
-        let file = |bases: &mut Bases, strips: usize| {
-            let mut plan = bases.plain();
-            plan.set(Tag::longs(257, &[length]));
-            plan.set(Tag::longs(278, &[rows]));
-            plan.set_strips(&vec![2; strips], (true, false));
-            plan.lay().bytes
-        };
-        cases.kept("12 273 too few", file(bases, strips));
-        cases.kept("12 273 too many", file(bases, strips));
-        if strips > 1 {
-            cases.broken("12 273 too few", file(bases, strips - 1), 273);
-        }
-        cases.broken("12 273 too many", file(bases, strips + 1), 273);
+        counted(bases, cases, &[(257, length), (278, rows)], strips);
     }
+}
+
+/// Tiles across times tiles down, each rounded up: not the quotient of the
+/// areas, which is another number for several of these, nor in 16 bits.
+fn tiles_rounded_up(bases: &mut Bases, cases: &mut Cases) {
+    const LARGEST: u32 = u32::MAX - 15;
+    let of = [
+        ((1, 1), (16, 16), 1),
+        ((16, 16), (16, 16), 1),
+        ((17, 16), (16, 16), 2),
+        ((16, 17), (16, 16), 2),
+        ((17, 17), (16, 16), 4),
+        ((40, 1), (16, 16), 3),
+        ((1, 40), (16, 16), 3),
+        ((32, 32), (16, 16), 4),
+        ((33, 31), (16, 16), 6),
+        ((48, 16), (16, 48), 3),
+        ((16, 48), (48, 16), 3),
+        ((100, 50), (32, 48), 8),
+        ((1_000_000, 1_000_000), (LARGEST, LARGEST), 1),
+        ((1_000_000, 1), (LARGEST, 16), 1),
+        ((1_000_000, 1_000_000), (1_000_000, 999_984), 2),
+        ((1_000_000, 1_000_000), (999_984, 999_984), 4),
+        ((65_537, 65_536), (65_536, 65_536), 2),
+    ];
+    for ((width, length), (of_width, of_length), tiles) in of {
+        let numbers = [(256, width), (257, length), (322, of_width), (323, of_length)];
+        counted(bases, cases, &numbers, tiles);
+    }
+    // 65,792 tiles, and 3,906,250,000
+    for (width, length, tiles) in [(4096, 4112, 256), (1_000_000, 1_000_000, 1)] {
+        let file = with_pieces(bases, &[(256, width), (257, length)], tiles);
+        cases.broken("12 324 too few", file, 324);
+    }
+}
+
+/// The plain file with these numbers and so many pieces.
+fn with_pieces(bases: &mut Bases, numbers: &[(u16, u32)], pieces: usize) -> Vec<u8> {
+    let mut plan = bases.plain();
+    numbers.iter().for_each(|&(tag, number)| plan.set(Tag::longs(tag, &[number])));
+    plan.set_pieces(bases.family, &vec![2; pieces], (true, false));
+    plan.lay().bytes
+}
+
+/// The right number of pieces, one less and one more.
+fn counted(bases: &mut Bases, cases: &mut Cases, numbers: &[(u16, u32)], pieces: usize) {
+    let (offsets, _) = bases.family.places();
+    let (few, many) = (format!("12 {offsets} too few"), format!("12 {offsets} too many"));
+    cases.kept(&few, with_pieces(bases, numbers, pieces));
+    cases.kept(&many, with_pieces(bases, numbers, pieces));
+    if pieces > 1 {
+        cases.broken(&few, with_pieces(bases, numbers, pieces - 1), u32::from(offsets));
+    }
+    cases.broken(&many, with_pieces(bases, numbers, pieces + 1), u32::from(offsets));
 }

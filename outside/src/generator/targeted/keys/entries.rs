@@ -26,7 +26,7 @@ fn position(keys: &Keys, key: u16) -> usize {
 /// A value that a known key may hold.
 fn right(row: &KeyRow) -> Held {
     match row.kind {
-        Kind::Short => Held::Number(row.allowed.map_or(4242, |ranges| ranges[0].0 as u16)),
+        Kind::Short => Held::Number(row.allowed.ranges().map_or(4242, |ranges| ranges[0].0 as u16)),
         Kind::Double => Held::Doubles(vec![0x4048_F5C2_8F5C_28F6]),
         _ => Held::Text(b"name|".to_vec()),
     }

@@ -1,0 +1,243 @@
+// Where the places of a picture may lie: rules 13 and 14 in one pass, each offset and byte count fetched once. The places are any two runs of
+// numbers, the reading list any two columns, so that every kind of picture is judged by this one pass.
+ghost use mathlib.Core.Path.{_≡_};
+ghost use mathlib.Core.Bool.{cond, _||_};
+ghost use Prim.Native.Nat.{_+_, _*_, _≤_, _<_, max, min};
+ghost use lib.Dec.{ltb, eqb};
+ghost use lib.ListN.{length};
+ghost use Rattle.order.specs.Width.{width};
+ghost use Rattle.paper.specs.Outcome.{orElse, verdict};
+ghost use Rattle.paper.specs.Pieces.{placesOf, rule13};
+ghost use Rattle.pieces.specs.Gaps.{Low, fromPlace, rangesOf, Found, Skipped, placesJudged};
+use paper::Verdict;
+
+// A gap of the reading list around a byte: no byte from lo up to hi is on it. Where the byte itself is on the list, it lies below lo.
+pub struct Gap {
+    pub lo: usize,
+    pub hi: usize,
+}
+
+// A place at which a search stopped, with its offset and byte count.
+pub struct Stop {
+    pub at: usize,
+    pub start: usize,
+    pub len: usize,
+}
+
+// Rule 13 at one place.
+fn is_bad(start: usize, len: usize, n: usize) -> bool
+    requires { ⌜ (start < 4294967296) × (len < 4294967296) ⌝ }
+    ensures { λ r. ⌜ r ≡ eqb len 0 || (ltb start 8 || ltb n (start + len)) ⌝ }
+{
+    (len == 0) | ((start < 8) | (n < start + len))
+}
+
+// Where a range starts that counts, and 0 for one of at most 4 bytes: that lies in an entry, and so in the range of the whole directory.
+fn counted(from: usize, len: usize) -> usize
+    ensures { λ r. ⌜ r ≡ cond (ltb 4 len) from 0 ⌝ }
+{
+    if 4 < len { from } else { 0 }
+}
+
+// The high end of a gap around a byte, with one range more that starts at `from`.
+fn lowered(hi: usize, byte: usize, from: usize) -> usize
+    ensures { λ r. ⌜ r ≡ cond (ltb byte from) (min hi from) hi ⌝ }
+{
+    if (byte < from) & (from < hi) {
+        return from;
+    }
+    hi
+}
+
+// The low end, with one range more from `from` up to `to`.
+fn raised(lo: usize, byte: usize, from: usize, to: usize) -> usize
+    ensures { λ r. ⌜ r ≡ cond (ltb byte from) lo (max lo to) ⌝ }
+{
+    if (from <= byte) & (lo < to) {
+        return to;
+    }
+    lo
+}
+
+// The gap around a byte of a file of n bytes, among m ranges that each have a start and a length. Nothing in it depends on a test that the
+// processor would have to guess.
+fn gap_of(starts: &[usize], lens: &[usize], m: usize, n: usize, byte: usize) -> Gap
+    requires { ⌜ (m ≤ length (now starts)) × (m ≤ length (now lens)) × Low (now starts) × Low (now lens) × (8 ≤ byte) ⌝ }
+    ensures { λ r. ⌜ Found byte n (rangesOf (now (starts .entry)) (now (lens .entry)) m) r ⌝ }
+{
+    let mut lo = 8;
+    let mut hi = n;
+    let mut j = m;
+    while 0 < j {
+        j -= 1;
+        let len = lens[j];
+        let from = counted(starts[j], len);
+        hi = lowered(hi, byte, from);
+        lo = raised(lo, byte, from, from + len);
+    }
+    Gap { lo, hi }
+}
+
+// Whether a place has no bytes or does not lie in the gap from lo up to hi. Its ends are counted from lo: one that starts before lo wraps around.
+fn is_out(start: usize, len: usize, lo: usize, hi: usize) -> bool
+    requires { ⌜ (start < 4294967296) × (len < 4294967296) × (lo ≤ hi) × (hi ≤ 4294967295) ⌝ }
+    ensures { λ r. ⌜ r ≡ ltb start lo || (eqb len 0 || ltb hi (start + len)) ⌝ }
+{
+    let from = std::num::wrapping_sub_usize(start, lo);
+    let to = std::num::wrapping_add_usize(from, len);
+    (to <= from) | (hi - lo < to)
+}
+
+// The first place from `from` on that does not lie in the gap from lo up to hi, with its offset and byte count; k where all do.
+fn skip_run(
+    offsets: &[u8],
+    wideoffsets: bool,
+    counts: &[u8],
+    widecounts: bool,
+    big: bool,
+    from: usize,
+    k: usize,
+    lo: usize,
+    hi: usize,
+) -> Stop
+    requires { ⌜ (from ≤ k) × (k < 4294967296) × (width wideoffsets * k ≤ length (now offsets)) × (width widecounts * k ≤ length (now counts)) × (lo ≤ hi) × (hi ≤ 4294967295) ⌝ }
+    ensures { λ r. ⌜ Skipped big (width wideoffsets) (now (offsets .entry)) (width widecounts) (now (counts .entry)) k lo hi from r ⌝ }
+{
+    let mut i = from;
+    while i < k {
+        let start = order::element(offsets, big, wideoffsets, i);
+        let len = order::element(counts, big, widecounts, i);
+        if is_out(start, len, lo, hi) {
+            return Stop { at: i, start, len };
+        }
+        i += 1;
+    }
+    Stop {
+        at: k,
+        start: 0,
+        len: 0,
+    }
+}
+
+// The same, with a loop of its own for the widths that most files have: two runs of LONGs.
+fn skip(
+    offsets: &[u8],
+    wideoffsets: bool,
+    counts: &[u8],
+    widecounts: bool,
+    big: bool,
+    from: usize,
+    k: usize,
+    lo: usize,
+    hi: usize,
+) -> Stop
+    requires { ⌜ (from ≤ k) × (k < 4294967296) × (width wideoffsets * k ≤ length (now offsets)) × (width widecounts * k ≤ length (now counts)) × (lo ≤ hi) × (hi ≤ 4294967295) ⌝ }
+    ensures { λ r. ⌜ Skipped big (width wideoffsets) (now (offsets .entry)) (width widecounts) (now (counts .entry)) k lo hi from r ⌝ }
+{
+    if wideoffsets {
+        if widecounts {
+            return skip_run(offsets, true, counts, true, big, from, k, lo, hi);
+        }
+    }
+    skip_run(
+        offsets,
+        wideoffsets,
+        counts,
+        widecounts,
+        big,
+        from,
+        k,
+        lo,
+        hi,
+    )
+}
+
+// Rule 13 from a place on, where an earlier place breaks rule 14 at `clash`.
+fn after_clash(
+    offsets: &[u8],
+    wideoffsets: bool,
+    counts: &[u8],
+    widecounts: bool,
+    big: bool,
+    from: usize,
+    k: usize,
+    n: usize,
+    clash: u32,
+) -> Verdict
+    requires { ⌜ (from ≤ k) × (k < 4294967296) × (width wideoffsets * k ≤ length (now offsets)) × (width widecounts * k ≤ length (now counts)) ⌝ }
+    ensures { λ r. ⌜ r ≡ orElse 13 (rule13 n (fromPlace big (width wideoffsets) (now (offsets .entry)) (width widecounts) (now (counts .entry)) from k)) (verdict 14 clash) ⌝ }
+{
+    let mut j = from;
+    while j < k {
+        let start = order::element(offsets, big, wideoffsets, j);
+        let len = order::element(counts, big, widecounts, j);
+        if is_bad(start, len, n) {
+            return Verdict {
+                number: 13,
+                place: j as u32,
+            };
+        }
+        j += 1;
+    }
+    Verdict {
+        number: 14,
+        place: clash,
+    }
+}
+
+// Rules 13 and 14 over k places: their offsets and byte counts are LONGs (wide) or SHORTs in two runs, and the reading list is m ranges.
+pub fn judge_places(
+    offsets: &[u8],
+    wideoffsets: bool,
+    counts: &[u8],
+    widecounts: bool,
+    big: bool,
+    k: usize,
+    n: usize,
+    starts: &[usize],
+    lens: &[usize],
+    m: usize,
+) -> Verdict
+    requires { ⌜ (k < 4294967296) × (width wideoffsets * k ≤ length (now offsets)) × (width widecounts * k ≤ length (now counts)) × (m ≤ length (now starts)) × (m ≤ length (now lens)) × Low (now starts) × Low (now lens) × (8 ≤ n) × (n ≤ 4294967295) ⌝ }
+    ensures { λ r. ⌜ r ≡ placesJudged n (rangesOf (now (starts .entry)) (now (lens .entry)) m) (placesOf big (width wideoffsets) (now (offsets .entry)) (width widecounts) (now (counts .entry)) k) ⌝ }
+{
+    let mut lo = 8;
+    let mut hi = 8;
+    let mut i = 0;
+    while i < k {
+        let s = skip(offsets, wideoffsets, counts, widecounts, big, i, k, lo, hi);
+        if k <= s.at {
+            return Verdict {
+                number: 0,
+                place: 0,
+            };
+        }
+        if is_bad(s.start, s.len, n) {
+            return Verdict {
+                number: 13,
+                place: s.at as u32,
+            };
+        }
+        let g = gap_of(starts, lens, m, n, s.start);
+        if (s.start < g.lo) | (g.hi < s.start + s.len) {
+            return after_clash(
+                offsets,
+                wideoffsets,
+                counts,
+                widecounts,
+                big,
+                s.at + 1,
+                k,
+                n,
+                s.at as u32,
+            );
+        }
+        lo = g.lo;
+        hi = g.hi;
+        i = s.at + 1;
+    }
+    Verdict {
+        number: 0,
+        place: 0,
+    }
+}

@@ -1,0 +1,25 @@
+-- `has_strips` looks at the starts of the three tags of strips. Assumes nothing.
+use mathlib.Core.Bool.{or-false}
+use Rattle.paper.specs.Tests.{some}
+use Rattle.tags.specs.Slots.{someAt}
+use borrow.Author.Needs.{needs}
+use Rattle.tags.proofs.has_strips.Statement.{statement}
+use Rattle.tags.proofs.has_strips.Tie as tie
+
+element-copy-out-result : tie.Need-element-copy-out-result
+element-copy-out-result c = search needs
+
+element-copy-out-result-2 : tie.Need-element-copy-out-result-2
+element-copy-out-result-2 c = search needs
+
+element-copy-out-result-3 : tie.Need-element-copy-out-result-3
+element-copy-out-result-3 c = search needs
+
+returns : tie.Need-returns
+unfolding someAt some
+returns c = rw or-false
+
+pub has-strips-spec : {M : Type 1} → statement M
+has-strips-spec =
+    tie.close
+    (tie.spec element-copy-out-result element-copy-out-result-2 element-copy-out-result-3 returns)

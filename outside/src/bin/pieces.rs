@@ -1,0 +1,28 @@
+//! pieces COUNT BYTES [tiles] [big]: writes an accepted file of so many strips,
+//! or tiles, of so many bytes each to standard output.
+
+use outside::generator::large::{many_pieces, possible};
+use outside::reader::tables::Family;
+use outside::reader::Order;
+use std::io::Write;
+use std::process::ExitCode;
+
+fn main() -> ExitCode {
+    let words: Vec<String> = std::env::args().skip(1).collect();
+    let number = |at: usize| words.get(at).and_then(|word| word.parse::<u32>().ok());
+    let said = |wanted: &str| words.iter().any(|word| word == wanted);
+    let family = if said("tiles") { Family::Tiles } else { Family::Strips };
+    let order = if said("big") { Order::Big } else { Order::Little };
+    let (Some(count), Some(bytes)) = (number(0), number(1)) else {
+        eprintln!("pieces COUNT BYTES [tiles] [big]");
+        return ExitCode::FAILURE;
+    };
+    if !possible(family, count) {
+        eprintln!("pieces: no picture has {count} {}s", family.word());
+        return ExitCode::FAILURE;
+    }
+    match std::io::stdout().write_all(&many_pieces(order, family, count, bytes)) {
+        Ok(()) => ExitCode::SUCCESS,
+        Err(_) => ExitCode::FAILURE,
+    }
+}

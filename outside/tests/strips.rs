@@ -1,0 +1,69 @@
+//! A file of strips that carries no tag of tiles is judged as document 01 alone
+//! judges it: by the table without those tags and without rule 27.
+
+mod common;
+
+use common::tags;
+use outside::generator::{random, targeted, Call, Case};
+use outside::reader::tables::{Family, BOTH, STRIPS_ALONE};
+use outside::reader::{judge, judge_by, judgements, reading_list, reading_list_by};
+use std::collections::BTreeSet;
+
+/// The files of the targeted cases of the plain judgement, and of the mix.
+fn files() -> impl Iterator<Item = Vec<u8>> {
+    let plain = targeted(81).into_iter().filter(|case| matches!(case.call, Call::Judge));
+    plain.map(|case| case.file).chain(random(82, 20_000).into_iter().map(|sample| sample.file))
+}
+
+/// Whether a file carries tags of strips and none of tiles. One without a whole
+/// directory carries no tags, and counts too.
+fn in_strips_alone(file: &[u8]) -> bool {
+    let tags = tags(file);
+    let carries = |family: Family| family.tags().any(|tag| tags.contains(&tag));
+    tags.is_empty() || carries(Family::Strips) && !carries(Family::Tiles)
+}
+
+#[test]
+fn a_file_without_tags_of_tiles_keeps_its_verdict_its_place_and_its_list() {
+    let (mut compared, mut numbers) = (0, BTreeSet::new());
+    for file in files().filter(|file| in_strips_alone(file)) {
+        let judged = judge_by(&file, STRIPS_ALONE);
+        assert_eq!(judge(&file), judged, "{file:02X?}");
+        assert_eq!(reading_list(&file), reading_list_by(&file, STRIPS_ALONE), "{file:02X?}");
+        numbers.insert(judged.verdict.number);
+        compared += 1;
+    }
+    assert_eq!(numbers, judgements().filter(|number| *number != 27).collect::<BTreeSet<u32>>());
+    assert!(compared > 10_000, "{compared} files");
+}
+
+/// Every other file is one of tiles or of no family, and by document 01 it was
+/// accepted or refused by rule 9 or a later one.
+#[test]
+fn only_tiles_and_files_of_no_family_are_judged_anew() {
+    let mut anew = 0;
+    for file in files() {
+        let (was, is) = (judge_by(&file, STRIPS_ALONE).verdict, judge_by(&file, BOTH).verdict);
+        if was != is {
+            assert!(!in_strips_alone(&file), "{file:02X?}");
+            assert!(was.number == 0 || was.number >= 9, "{was:?} {is:?}");
+            anew += 1;
+        }
+    }
+    assert!(anew > 5_000, "{anew} files");
+}
+
+/// Tags of tiles beside strips were tags outside the table.
+#[test]
+fn document_01_lets_tags_of_tiles_stand_beside_strips() {
+    let mut beside = 0;
+    let both = |case: &Case| case.broken && case.clause == "27 both families";
+    for case in targeted(83).into_iter().filter(both) {
+        let was = judge_by(&case.file, STRIPS_ALONE).verdict.number;
+        if was == 0 {
+            assert_eq!(judge(&case.file).verdict.number, 27);
+            beside += 1;
+        }
+    }
+    assert!(beside > 20, "{beside} files");
+}
