@@ -4,15 +4,16 @@ use Prim.Native.Nat.{ℕ, zero, suc, _+_, _*_, _≤_, _<_, zero-le, suc-le-suc}
 use mathlib.Core.Path.{_≡_, refl, sym, ap, _∙_, subst}
 use mathlib.Core.Bool.{Bool, true, false, cond, not, _||_, false≢true}
 use mathlib.Core.Logic.{_⊎_, inl, inr}
-use mathlib.Core.List.{List, [], _∷_, _++_}
+use mathlib.Core.List.{List, [], _∷_, _++_, map}
 use native.Mathlib.Nat.{mul-le-mul}
 use native.Mathlib.Omega.{arith}
-use lib.Dec.{eqb, lit<}
+use lib.Dec.{eqb, leb, lit<}
 use lib.ListN.{length, getD, List·getD-append}
-use borrow.Author.Tests.{eqb-true, le-ltb}
+use borrow.Author.Tests.{eqb-true, le-ltb, not-true}
 use Rattle.order.specs.Width.{width}
 use Rattle.paper.specs.Bytes.{run, build}
-use Rattle.paper.specs.Tests.{keep}
+use Rattle.paper.specs.Tests.{all, keep}
+use Rattle.paper.proofs.Laws.{and-eq}
 use Rattle.paper.specs.Outcome.{first, verdict}
 use Rattle.paper.specs.Layout.{dirLen, sizeOf}
 use Rattle.paper.specs.Tag
@@ -157,24 +158,23 @@ module _ (f : List ℕ) (big : Bool) (at c : ℕ) (starts lens : List ℕ) (w l 
 
 -- ---- the pieces
 
--- a list without the ranges that do not count
-keep-out : (x : Range) (xs ys : List Range) → wide x ≡ false → keep wide ys ≡ keep wide xs → keep wide ys ≡ keep wide (x ∷ xs)
-unfolding keep
-keep-out x xs ys h e = rw h e
+-- a list of ranges with those that are chosen alone: none of the others counts
+kept-chosen : (ps : ℕ → Range) (chosen : ℕ → Bool) (ks : List ℕ) → all (λ k. chosen k || not (wide (ps k))) ks ≡ true
+    → keep wide (map ps (keep chosen ks)) ≡ keep wide (map ps ks)
+unfolding all keep
+kept-chosen ps chosen [] h = refl
+kept-chosen ps chosen (k ∷ ks) h =
+    let b = and-eq (chosen k || not (wide (ps k))) _ h in
+    go (chosen k) refl (b .0) (kept-chosen ps chosen ks (b .1))
+  where
+    go : (t : Bool) → chosen k ≡ t → chosen k || not (wide (ps k)) ≡ true → keep wide (map ps (keep chosen ks)) ≡ keep wide (map ps ks)
+        → keep wide (map ps (keep chosen (k ∷ ks))) ≡ keep wide (map ps (k ∷ ks))
+    go true e o r = rw e (ap (λ (zs : List Range). cond (wide (ps k)) (ps k ∷ zs) zs) r)
+    go false e o r = let w : wide (ps k) ≡ false = not-true _ (rw e at o) in rw (e, w) r
 
-keep-both : (x : Range) (xs ys : List Range) → keep wide ys ≡ keep wide xs → keep wide (x ∷ ys) ≡ keep wide (x ∷ xs)
-unfolding keep
-keep-both x xs ys e = ap (λ (zs : List Range). cond (wide x) (x ∷ zs) zs) e
-
-outer-strips : (ps : ℕ → Range) → wide (ps 0) ≡ false → wide (ps 1) ≡ false → wide (ps 3) ≡ false → wide (ps 4) ≡ false → wide (ps 6) ≡ false → wide (ps 7) ≡ false → wide (ps 9) ≡ false → wide (ps 10) ≡ false → wide (ps 11) ≡ false → wide (ps 12) ≡ false → wide (ps 13) ≡ false
-    → keep wide (ps 2 ∷ ps 5 ∷ ps 8 ∷ ps 14 ∷ ps 15 ∷ ps 16 ∷ ps 17 ∷ ps 18 ∷ ps 19 ∷ ps 20 ∷ ps 21 ∷ ps 22 ∷ []) ≡ keep wide (ps 0 ∷ ps 1 ∷ ps 2 ∷ ps 3 ∷ ps 4 ∷ ps 5 ∷ ps 6 ∷ ps 7 ∷ ps 8 ∷ ps 9 ∷ ps 10 ∷ ps 11 ∷ ps 12 ∷ ps 13 ∷ ps 14 ∷ ps 15 ∷ ps 16 ∷ ps 17 ∷ ps 18 ∷ ps 19 ∷ ps 20 ∷ ps 21 ∷ ps 22 ∷ [])
-outer-strips ps h0 h1 h3 h4 h6 h7 h9 h10 h11 h12 h13 =
-    keep-out (ps 0) _ _ h0 (keep-out (ps 1) _ _ h1 (keep-both (ps 2) _ _ (keep-out (ps 3) _ _ h3 (keep-out (ps 4) _ _ h4 (keep-both (ps 5) _ _ (keep-out (ps 6) _ _ h6 (keep-out (ps 7) _ _ h7 (keep-both (ps 8) _ _ (keep-out (ps 9) _ _ h9 (keep-out (ps 10) _ _ h10 (keep-out (ps 11) _ _ h11 (keep-out (ps 12) _ _ h12 (keep-out (ps 13) _ _ h13 (keep-both (ps 14) _ _ (keep-both (ps 15) _ _ (keep-both (ps 16) _ _ (keep-both (ps 17) _ _ (keep-both (ps 18) _ _ (keep-both (ps 19) _ _ (keep-both (ps 20) _ _ (keep-both (ps 21) _ _ (keep-both (ps 22) _ _ refl))))))))))))))))))))))
-
-outer-tiles : (ps : ℕ → Range) → wide (ps 0) ≡ false → wide (ps 1) ≡ false → wide (ps 3) ≡ false → wide (ps 4) ≡ false → wide (ps 6) ≡ false → wide (ps 7) ≡ false → wide (ps 9) ≡ false → wide (ps 10) ≡ false → wide (ps 11) ≡ false → wide (ps 5) ≡ false → wide (ps 8) ≡ false
-    → keep wide (ps 2 ∷ ps 12 ∷ ps 13 ∷ ps 14 ∷ ps 15 ∷ ps 16 ∷ ps 17 ∷ ps 18 ∷ ps 19 ∷ ps 20 ∷ ps 21 ∷ ps 22 ∷ []) ≡ keep wide (ps 0 ∷ ps 1 ∷ ps 2 ∷ ps 3 ∷ ps 4 ∷ ps 5 ∷ ps 6 ∷ ps 7 ∷ ps 8 ∷ ps 9 ∷ ps 10 ∷ ps 11 ∷ ps 12 ∷ ps 13 ∷ ps 14 ∷ ps 15 ∷ ps 16 ∷ ps 17 ∷ ps 18 ∷ ps 19 ∷ ps 20 ∷ ps 21 ∷ ps 22 ∷ [])
-outer-tiles ps h0 h1 h3 h4 h6 h7 h9 h10 h11 h5 h8 =
-    keep-out (ps 0) _ _ h0 (keep-out (ps 1) _ _ h1 (keep-both (ps 2) _ _ (keep-out (ps 3) _ _ h3 (keep-out (ps 4) _ _ h4 (keep-out (ps 5) _ _ h5 (keep-out (ps 6) _ _ h6 (keep-out (ps 7) _ _ h7 (keep-out (ps 8) _ _ h8 (keep-out (ps 9) _ _ h9 (keep-out (ps 10) _ _ h10 (keep-out (ps 11) _ _ h11 (keep-both (ps 12) _ _ (keep-both (ps 13) _ _ (keep-both (ps 14) _ _ (keep-both (ps 15) _ _ (keep-both (ps 16) _ _ (keep-both (ps 17) _ _ (keep-both (ps 18) _ _ (keep-both (ps 19) _ _ (keep-both (ps 20) _ _ (keep-both (ps 21) _ _ (keep-both (ps 22) _ _ refl))))))))))))))))))))))
+-- the slots whose ranges may lie outside an entry, with a and b for the pieces
+chosen : ℕ → ℕ → ℕ → Bool
+chosen a b k = eqb k 2 || (eqb k a || (eqb k b || leb 14 k))
 
 -- two lists of low numbers, one after the other
 low-parts : (xs ys zs : List ℕ) → zs ≡ xs ++ ys → ((k : ℕ) → k < length xs → getD zs k 0 < 68719476736) → Low ys → Low zs
@@ -237,47 +237,60 @@ module _ (f : List ℕ) (big : Bool) (at c : ℕ) (t : Bool) (typs counts starts
               pick false false z q r = absurd (false≢true z)
 
   -- so the ranges that count are among the outer ones
-  short-range : (k : ℕ) → getD lens k 0 ≤ 4 → wide (part (getD starts k 0) (getD lens k 0)) ≡ false
+  abbrev Reach : ℕ → Range
+  Reach k = part (getD starts k 0) (getD lens k 0)
+
+  short-range : (k : ℕ) → getD lens k 0 ≤ 4 → wide (Reach k) ≡ false
   unfolding wide
   short-range k h = le-ltb 4 (getD lens k 0) h
 
+  short : (k : ℕ) → k < 21 → sizeOf (lineAt k .type) ≤ 4 → sizeOf (lineAt k .other) ≤ 4 → lineAt k .most ≡ 1 → wide (Reach k) ≡ false
+  short k h a b m = short-range k (short-slot k h a b m)
+
   -- and a tag of the family that is absent has no bytes
-  none-range : (k : ℕ) → getD lens k 0 ≡ 0 → wide (part (getD starts k 0) (getD lens k 0)) ≡ false
+  none-range : (k : ℕ) → getD lens k 0 ≡ 0 → wide (Reach k) ≡ false
   none-range k z = short-range k (omega arith)
 
   ranges-at : (v : Bool) → v ≡ tiled (heldAt f big at c)
       → rangesOf (outerOf starts (offsetsSlot v) (byteCountsSlot v)) (outerOf lens (offsetsSlot v) (byteCountsSlot v)) 12 ≡ rangesOf starts lens 23
-  unfolding rangesOf rangeAt build outerOf lineAt tagAt table sizeOf offsetsSlot byteCountsSlot
+  unfolding rangesOf rangeAt build outerOf lineAt tagAt table sizeOf offsetsSlot byteCountsSlot all keep chosen
   ranges-at v e = go v e (told .no-offsets) (told .no-sizes)
     where
+      short0 : wide (Reach 0) ≡ false
+      short0 = short 0 (lit< tt) (omega arith) (omega arith) refl
+
+      short1 : wide (Reach 1) ≡ false
+      short1 = short 1 (lit< tt) (omega arith) (omega arith) refl
+
+      short3 : wide (Reach 3) ≡ false
+      short3 = short 3 (lit< tt) (omega arith) (omega arith) refl
+
+      short4 : wide (Reach 4) ≡ false
+      short4 = short 4 (lit< tt) (omega arith) (omega arith) refl
+
+      short6 : wide (Reach 6) ≡ false
+      short6 = short 6 (lit< tt) (omega arith) (omega arith) refl
+
+      short7 : wide (Reach 7) ≡ false
+      short7 = short 7 (lit< tt) (omega arith) (omega arith) refl
+
+      short9 : wide (Reach 9) ≡ false
+      short9 = short 9 (lit< tt) (omega arith) (omega arith) refl
+
+      short10 : wide (Reach 10) ≡ false
+      short10 = short 10 (lit< tt) (omega arith) (omega arith) refl
+
+      short11 : wide (Reach 11) ≡ false
+      short11 = short 11 (lit< tt) (omega arith) (omega arith) refl
+
       go : (v : Bool) → v ≡ tiled (heldAt f big at c) → getD lens (offsetsSlot (not (tiled (heldAt f big at c)))) 0 ≡ 0 → getD lens (byteCountsSlot (not (tiled (heldAt f big at c)))) 0 ≡ 0
           → rangesOf (outerOf starts (offsetsSlot v) (byteCountsSlot v)) (outerOf lens (offsetsSlot v) (byteCountsSlot v)) 12 ≡ rangesOf starts lens 23
       go true e x y =
-          outer-tiles (λ k. part (getD starts k 0) (getD lens k 0))
-          (short-range 0 (short-slot 0 (lit< tt) (omega arith) (omega arith) refl))
-          (short-range 1 (short-slot 1 (lit< tt) (omega arith) (omega arith) refl))
-          (short-range 3 (short-slot 3 (lit< tt) (omega arith) (omega arith) refl))
-          (short-range 4 (short-slot 4 (lit< tt) (omega arith) (omega arith) refl))
-          (short-range 6 (short-slot 6 (lit< tt) (omega arith) (omega arith) refl))
-          (short-range 7 (short-slot 7 (lit< tt) (omega arith) (omega arith) refl))
-          (short-range 9 (short-slot 9 (lit< tt) (omega arith) (omega arith) refl))
-          (short-range 10 (short-slot 10 (lit< tt) (omega arith) (omega arith) refl))
-          (short-range 11 (short-slot 11 (lit< tt) (omega arith) (omega arith) refl))
-          (none-range 5 (rw (← e) at x))
-          (none-range 8 (rw (← e) at y))
+          kept-chosen Reach (chosen 12 13) (build (λ k. k) 0 23)
+          (rw (short0, short1, short3, short4, none-range 5 (rw (← e) at x), short6, short7, none-range 8 (rw (← e) at y), short9, short10, short11))
       go false e x y =
-          outer-strips (λ k. part (getD starts k 0) (getD lens k 0))
-          (short-range 0 (short-slot 0 (lit< tt) (omega arith) (omega arith) refl))
-          (short-range 1 (short-slot 1 (lit< tt) (omega arith) (omega arith) refl))
-          (short-range 3 (short-slot 3 (lit< tt) (omega arith) (omega arith) refl))
-          (short-range 4 (short-slot 4 (lit< tt) (omega arith) (omega arith) refl))
-          (short-range 6 (short-slot 6 (lit< tt) (omega arith) (omega arith) refl))
-          (short-range 7 (short-slot 7 (lit< tt) (omega arith) (omega arith) refl))
-          (short-range 9 (short-slot 9 (lit< tt) (omega arith) (omega arith) refl))
-          (short-range 10 (short-slot 10 (lit< tt) (omega arith) (omega arith) refl))
-          (short-range 11 (short-slot 11 (lit< tt) (omega arith) (omega arith) refl))
-          (none-range 12 (rw (← e) at x))
-          (none-range 13 (rw (← e) at y))
+          kept-chosen Reach (chosen 5 8) (build (λ k. k) 0 23)
+          (rw (short0, short1, short3, short4, short6, short7, short9, short10, short11, none-range 12 (rw (← e) at x), none-range 13 (rw (← e) at y)))
 
   -- the size of the file
   pub file-eight : 8 ≤ length f

@@ -129,7 +129,7 @@ unfolding all spares among some table
 tiles-spared = refl
 
 -- where no tag of a family is present, each of them is absent
-has-none : (ts : List ℕ) (hs : List Held) (t : ℕ) → hasSome ts hs ≡ false → among ts t ≡ true → has t hs ≡ false
+pub has-none : (ts : List ℕ) (hs : List Held) (t : ℕ) → hasSome ts hs ≡ false → among ts t ≡ true → has t hs ≡ false
 unfolding hasSome among some
 has-none [] hs t n m = absurd (false≢true m)
 has-none (s ∷ ts) hs t n m = go (eqb t s) refl (has-none ts hs t (or-false (has s hs) _ n .1))

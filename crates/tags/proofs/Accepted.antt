@@ -12,7 +12,7 @@ use Rattle.order.specs.Width.{width}
 use Rattle.paper.specs.Bytes.{run}
 use Rattle.paper.specs.Outcome.{_▸_, first}
 use Rattle.paper.specs.declared.Outcome.the-variants.{Kept as kept}
-use Rattle.paper.specs.Tests.{all}
+use Rattle.paper.specs.Tests.{all, some}
 use Rattle.paper.specs.Layout.{sizeOf}
 use Rattle.paper.specs.Tag
 use Rattle.paper.specs.Tags.{table, Held, has, countOf, valueOf, tiled, offsetsTag, byteCountsTag, pieceCount, rule27, rule9, rule10, rule11, rule12}
@@ -21,6 +21,7 @@ use Rattle.paper.specs.Judge.{View, viewAt, entriesIn, dirRun, countIn, piecesO
 use Rattle.paper.specs.Judge as judge
 use Rattle.paper.proofs.Laws.{run-length-in, or-same}
 use Rattle.paper.proofs.First.{kept-first}
+use Rattle.paper.proofs.Kept.{among}
 use Rattle.tags.specs.Slots.{lineAt, tagAt, offsetsSlot, byteCountsSlot}
 use Rattle.tags.specs.Numbers.{numbersOf, bitsOf, countOfPieces}
 use Rattle.tags.specs.Tagging.{entriesAt, heldAt, viewOf, tableRules, taggedBy, taggedOf, Ready}
@@ -206,20 +207,20 @@ module _ (f : List ℕ) (big : Bool) (at c : ℕ) (typs counts starts lens : Lis
   none-at k h n = here k h .none (eqb-true _ 0 (sym (Bool·not-not _) ∙ ap not (sym (here k h .present) ∙ n)))
 
   no-offsets-column : getD lens (offsetsSlot (not (tiled (heldAt f big at c)))) 0 ≡ 0
-  unfolding lineAt tagAt table offsetsSlot
+  unfolding lineAt tagAt table offsetsSlot among some
   no-offsets-column = go (tiled (heldAt f big at c)) refl
     where
       go : (b : Bool) → tiled (heldAt f big at c) ≡ b → getD lens (cond (not b) 12 5) 0 ≡ 0
-      go true e = none-at 5 (lit< tt) (no-strip (heldAt f big at c) mixed-kept e .0)
-      go false e = none-at 12 (lit< tt) (no-tile (heldAt f big at c) mixed-kept e .2)
+      go true e = none-at 5 (lit< tt) (no-strip (heldAt f big at c) mixed-kept e 273 refl)
+      go false e = none-at 12 (lit< tt) (no-tile (heldAt f big at c) mixed-kept e 324 refl)
 
   no-sizes-column : getD lens (byteCountsSlot (not (tiled (heldAt f big at c)))) 0 ≡ 0
-  unfolding lineAt tagAt table byteCountsSlot
+  unfolding lineAt tagAt table byteCountsSlot among some
   no-sizes-column = go (tiled (heldAt f big at c)) refl
     where
       go : (b : Bool) → tiled (heldAt f big at c) ≡ b → getD lens (cond (not b) 13 8) 0 ≡ 0
-      go true e = none-at 8 (lit< tt) (no-strip (heldAt f big at c) mixed-kept e .2)
-      go false e = none-at 13 (lit< tt) (no-tile (heldAt f big at c) mixed-kept e .3)
+      go true e = none-at 8 (lit< tt) (no-strip (heldAt f big at c) mixed-kept e 279 refl)
+      go false e = none-at 13 (lit< tt) (no-tile (heldAt f big at c) mixed-kept e 325 refl)
 
   pub accepted : Accepted f big at c typs counts starts lens
   unfolding numbersOf lineAt tagAt table sizeOf

@@ -14,7 +14,8 @@ use Rattle.paper.specs.Outcome.{firstBad}
 use Rattle.paper.specs.declared.Outcome.the-variants.{Kept as kept}
 use Rattle.paper.specs.Tests.{all, some, allows}
 use Rattle.paper.specs.Tags.{Line, any, sixteens, table, Held, find, has, countOf, valueOf, valuesOf, stripTags, tileTags, hasSome, tiled, rule27, offsetsTag, byteCountsTag, pieceCount, lacks, rule9, fitsLine, rule10, disallowed, rule11, rule12}
-use Rattle.paper.proofs.Laws.{and-eq, or-false, breaks-kept, kept-all}
+use Rattle.paper.proofs.Laws.{and-eq, breaks-kept, kept-all}
+use Rattle.paper.proofs.Kept.{among, has-none}
 use Rattle.paper.proofs.Bounds.{noLine, fits-line}
 use Rattle.tags.specs.Slots.{lineAt, tagAt}
 use Rattle.tags.specs.Numbers.{numbersOf, bitsOf, elevenOf, countOfPieces, twelveOf}
@@ -103,20 +104,11 @@ module _ (hs : List Held) (mixed : rule27 hs ≡ kept) where
       not-both false t h k = refl
   none-else false e = e
 
-  pub no-strip : tiled hs ≡ true → (has 273 hs ≡ false) × (has 278 hs ≡ false) × (has 279 hs ≡ false)
-  unfolding hasSome some
-  no-strip e =
-      let a = or-false (has 273 hs) _ (none-else true e) in
-      let b = or-false (has 278 hs) _ (a .1) in
-      (a .0, b .0, or-false (has 279 hs) _ (b .1) .0)
+  pub no-strip : tiled hs ≡ true → (t : ℕ) → among stripTags t ≡ true → has t hs ≡ false
+  no-strip e t m = has-none stripTags hs t (none-else true e) m
 
-  pub no-tile : tiled hs ≡ false → (has 322 hs ≡ false) × (has 323 hs ≡ false) × (has 324 hs ≡ false) × (has 325 hs ≡ false)
-  unfolding hasSome some
-  no-tile e =
-      let a = or-false (has 322 hs) _ (none-else false e) in
-      let b = or-false (has 323 hs) _ (a .1) in
-      let c = or-false (has 324 hs) _ (b .1) in
-      (a .0, b .0, c .0, or-false (has 325 hs) _ (c .1) .0)
+  pub no-tile : tiled hs ≡ false → (t : ℕ) → among tileTags t ≡ true → has t hs ≡ false
+  no-tile e t m = has-none tileTags hs t (none-else false e) m
 
 -- ---- the two rules
 
@@ -126,7 +118,7 @@ not-not false h = sym h
 
 pub eleven-is : (big : Bool) (hs : List Held) → rule27 hs ≡ kept → rule9 table hs ≡ kept → rule10 table hs ≡ kept
     → elevenOf (numbersOf big hs) (bitsOf big hs .allowed) ≡ rule11 table big hs
-unfolding rule11 elevenOf numbersOf firstBad lineAt tagAt table allows some sixteens
+unfolding rule11 elevenOf numbersOf firstBad lineAt tagAt table allows among some sixteens
 eleven-is big hs mixed nine ten =
     let needed : (k : ℕ) → k < 21 → lineAt k .needed (tiled hs) ≡ true → LinedAt hs k = needed-lined hs nine ten in
     rw (
@@ -137,11 +129,11 @@ eleven-is big hs mixed nine ten =
       one-bad big hs 4 (needed 4 (lit< tt) refl),
       any-bad big hs 5 refl,
       one-bad big hs 6 (needed 6 (lit< tt) refl),
-      asked-bad big hs 7 1 (not (tiled hs)) (needed 7 (lit< tt)) (λ e. no-strip hs mixed (not-not (tiled hs) e) .1) refl,
+      asked-bad big hs 7 1 (not (tiled hs)) (needed 7 (lit< tt)) (λ e. no-strip hs mixed (not-not (tiled hs) e) 278 refl) refl,
       any-bad big hs 8 refl,
       asked-bad big hs 9 1 (has 284 hs) (lined hs ten 9 (lit< tt)) (λ e. e) refl,
-      asked-bad big hs 10 16 (tiled hs) (needed 10 (lit< tt)) (λ e. no-tile hs mixed e .0) refl,
-      asked-bad big hs 11 16 (tiled hs) (needed 11 (lit< tt)) (λ e. no-tile hs mixed e .1) refl,
+      asked-bad big hs 10 16 (tiled hs) (needed 10 (lit< tt)) (λ e. no-tile hs mixed e 322 refl) refl,
+      asked-bad big hs 11 16 (tiled hs) (needed 11 (lit< tt)) (λ e. no-tile hs mixed e 323 refl) refl,
       any-bad big hs 12 refl,
       any-bad big hs 13 refl,
       any-bad big hs 14 refl,
