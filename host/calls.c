@@ -1,8 +1,12 @@
-/* calls: asks every call of petalbuzz.h about the file on standard input and
- * prints the answers; then again with a null pointer in each place of a run,
- * with a length beside it that must not count. It is C and C++ alike. */
+/* calls I J: asks every call of petalbuzz.h about the file on standard input
+ * and prints the answers; then again with a null pointer in each place of a run
+ * or of room, with a length beside it that must not count. I and J are column
+ * and row of the second corner. A corner that is not where the header says and
+ * a name that has not its number get a line of their own. It is C and C++
+ * alike. */
 #include "../include/petalbuzz.h"
 #include <stdio.h>
+#include <stdlib.h>
 #include <string.h>
 #include <unistd.h>
 
@@ -11,6 +15,26 @@ enum { ROWS = 257, UNTOUCHED = 0x77 };
 static uint8_t file[1 << 16], out[1 << 16];
 static size_t len;
 static petalbuzz_row rows[ROWS];
+
+/* The names of the verdicts and of the kinds, in the order of their numbers. */
+static const uint32_t verdicts[] = {
+    PETALBUZZ_ACCEPTED, PETALBUZZ_FILE_LENGTH, PETALBUZZ_BYTE_ORDER, PETALBUZZ_NOT_42,
+    PETALBUZZ_DIRECTORY_OFFSET, PETALBUZZ_DIRECTORY_COUNT, PETALBUZZ_TAG_ORDER,
+    PETALBUZZ_TAG_VALUE_PLACE, PETALBUZZ_NEXT_OFFSET, PETALBUZZ_TAG_ABSENT, PETALBUZZ_TAG_FORM,
+    PETALBUZZ_TAG_VALUE, PETALBUZZ_TAGS_DISAGREE, PETALBUZZ_PIECE_PLACE, PETALBUZZ_PIECE_ON_LIST,
+    PETALBUZZ_KEY_HEADER, PETALBUZZ_KEY_ORDER, PETALBUZZ_KEY_FORM, PETALBUZZ_KEY_ABSENT,
+    PETALBUZZ_KEY_VALUE, PETALBUZZ_NO_GEOREFERENCE, PETALBUZZ_GEOREFERENCE, PETALBUZZ_CORNER,
+    PETALBUZZ_FEW_ROWS, PETALBUZZ_BLOCK_INDEX, PETALBUZZ_BLOCK_ROOM, PETALBUZZ_NO_CITATION,
+    PETALBUZZ_FAMILIES,
+};
+static const uint32_t kinds[] = {
+    PETALBUZZ_SHORT, PETALBUZZ_DOUBLE, PETALBUZZ_ASCII, PETALBUZZ_OTHER,
+};
+
+static void check_names(const uint32_t *named, size_t n) {
+    for (size_t i = 0; i < n; i++)
+        if (named[i] != i) printf("name %zu has the number %u\n", i, named[i]);
+}
 
 static void print_part(const char *what, petalbuzz_part a) {
     printf("%s %u %u from %u at %zu '%.*s'\n", what, a.verdict, a.place, a.from, a.start,
@@ -21,7 +45,15 @@ static void print_counted(const char *what, petalbuzz_counted a) {
     printf("%s %u %u keys %u\n", what, a.verdict, a.place, a.keys);
 }
 
-static void ask_ground(const void *from) {
+/* Column i and row j on the ground, as the header has it, against x and y. */
+static void check_corner(const petalbuzz_grounded *a, double i, double j, const double *xy) {
+    const double *n = a->six;
+    double x = a->form == 0 ? n[2] + (i - n[0]) * n[4] : (n[0] * i + n[1] * j) + n[2];
+    double y = a->form == 0 ? n[3] - (j - n[1]) * n[5] : (n[3] * i + n[4] * j) + n[5];
+    if (x != xy[0] || y != xy[1]) printf("%.1f %.1f is at %.1f %.1f, no corner\n", i, j, x, y);
+}
+
+static petalbuzz_grounded ask_ground(const void *from) {
     petalbuzz_judged a = petalbuzz_judge_file(from, len);
     petalbuzz_grounded b = petalbuzz_ground_file(from, len);
     printf("judge %u %u\nground %u %u form %u", a.verdict, a.place, b.verdict, b.place, b.form);
@@ -29,6 +61,7 @@ static void ask_ground(const void *from) {
     printf(" corners");
     for (int i = 0; i < 4; i++) printf(" %.1f", b.corners[i]);
     printf("\n");
+    return b;
 }
 
 /* Prints the rows up to the last one that the call has changed. */
@@ -88,11 +121,15 @@ static void ask_nothing(void) {
     ask_block(0, out, sizeof out);
 }
 
-int main(void) {
+int main(int argc, char **argv) {
     ssize_t n = read(0, file, sizeof file);
-    if (n < 0) return 2;
+    if (n < 0 || argc != 3) return 2;
     len = (size_t)n;
-    ask_ground(file);
+    check_names(verdicts, sizeof verdicts / sizeof verdicts[0]);
+    check_names(kinds, sizeof kinds / sizeof kinds[0]);
+    petalbuzz_grounded a = ask_ground(file);
+    check_corner(&a, 0, 0, a.corners);
+    check_corner(&a, strtod(argv[1], 0), strtod(argv[2], 0), a.corners + 2);
     ask_rows(file, rows, ROWS);
     ask_rows(file, rows, 2);
     ask_rows(file, 0, ROWS);

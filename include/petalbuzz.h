@@ -1,20 +1,26 @@
-/* petalbuzz: the judge of delivered GeoTIFF files, for C and C++.
+/* petalbuzz: the judge of delivered GeoTIFF files, for C and C++ (C99 or C++11,
+ * or later).
  *
  * A file is lent as one run of bytes. The judge only reads it, keeps nothing
  * of it and allocates nothing; all memory stays the caller's. A call may run
  * in any thread, on any bytes of any length, and always ends.
  *
- * Every call gives two numbers. The verdict is 0 for an accepted file, else
- * the number of the first broken rule. The place says where: a tag, a key or
- * the index of a strip or tile, as the rule has it, and 0 where the rule has
- * none. Rules 1 to 22 and 27, which comes directly after 8, are the same in
- * every call on a file; 23 to 26 are told where a call has them. With any
- * verdict but 0 all other numbers are 0 and memory lent for writing keeps its
- * bytes.
+ * Every function here asks two things of its caller. Memory lent for writing
+ * overlaps nothing else that is lent. And nobody else writes or cuts what is
+ * lent while the call runs: otherwise nothing here holds, the answers may be of
+ * no state of the file, and a call on a mapped file that is cut ends in SIGBUS.
  *
- * The functions named *_file or *_runs take any pointer, a null one too, and
- * answer a struct: a host calls these. The plain functions are the symbols of
- * the library, with its own conditions on pointers.
+ * Every call gives two numbers. The verdict is 0 for an accepted file, else
+ * the number of the first broken rule. The place says where, as the rule has
+ * it. Rules 1 to 22 and 27, which comes directly after 8, are the same in every
+ * call on a file; 23 to 26 are told where a call has them. With any verdict but
+ * 0 all other numbers are 0 and memory lent for writing keeps its bytes.
+ *
+ * The functions named *_file or *_runs answer a struct: a host calls these.
+ * Each of their pointers may be null, whatever length stands beside it: a null
+ * run is an empty run, and null for memory to be written is no room. The plain
+ * functions are the symbols of the library, with its own conditions on
+ * pointers.
  *
  * Link with libpetalbuzz.a (x86-64); it needs no other library. */
 #ifndef PETALBUZZ_H
@@ -27,40 +33,94 @@
 extern "C" {
 #endif
 
+/* Bytes of stack that a call takes at most, the frame of a *_file or *_runs
+ * function included: measured. It does not depend on the length of the file. */
+#define PETALBUZZ_STACK 3072
+
+/* The verdicts: what is wrong, and behind a colon what the place is, the first
+ * one of several; without a colon the place is 0. A piece is a strip or a tile,
+ * counted from 0; outside is below byte 8 or past the end of the file. */
+enum petalbuzz_verdict {
+    PETALBUZZ_ACCEPTED = 0,
+    PETALBUZZ_FILE_LENGTH = 1,      /* below 8 or above 4,294,967,295 bytes */
+    PETALBUZZ_BYTE_ORDER = 2,       /* bytes 0-1 are neither "II" nor "MM" */
+    PETALBUZZ_NOT_42 = 3,           /* bytes 2-3 are not the number 42 */
+    PETALBUZZ_DIRECTORY_OFFSET = 4, /* the directory starts odd or outside */
+    PETALBUZZ_DIRECTORY_COUNT = 5,  /* it has 0 or over 1,024 entries, or ends outside */
+    PETALBUZZ_TAG_ORDER = 6,        /* a tag is not greater than the one before: the later tag */
+    PETALBUZZ_TAG_VALUE_PLACE = 7,  /* a value is empty, starts odd or lies outside: its tag */
+    PETALBUZZ_NEXT_OFFSET = 8,      /* another directory is said to follow */
+    PETALBUZZ_TAG_ABSENT = 9,       /* a needed tag is absent: the tag */
+    PETALBUZZ_TAG_FORM = 10,        /* a tag has another type or count: the tag */
+    PETALBUZZ_TAG_VALUE = 11,       /* a tag's value is not allowed: the tag */
+    PETALBUZZ_TAGS_DISAGREE = 12,   /* a tag does not fit the others: the tag */
+    PETALBUZZ_PIECE_PLACE = 13,     /* a piece is empty or lies outside: its index */
+    PETALBUZZ_PIECE_ON_LIST = 14,   /* a piece shares a byte with what the judge reads: its index */
+    PETALBUZZ_KEY_HEADER = 15,      /* the key directory's first four numbers are absent or wrong */
+    PETALBUZZ_KEY_ORDER = 16,       /* a key is not greater than the one before: the later key */
+    PETALBUZZ_KEY_FORM = 17,        /* a key's location, count or value index is wrong: the key */
+    PETALBUZZ_KEY_ABSENT = 18,      /* a needed key is absent: the key */
+    PETALBUZZ_KEY_VALUE = 19,       /* a key's value is not allowed: the key */
+    PETALBUZZ_NO_GEOREFERENCE = 20, /* neither scale and tiepoint alone nor a matrix alone */
+    PETALBUZZ_GEOREFERENCE = 21,    /* a number of scale, tiepoint or matrix is wrong: its tag */
+    PETALBUZZ_CORNER = 22,          /* a corner's coordinate is not finite */
+    PETALBUZZ_FEW_ROWS = 23,        /* fewer rows are lent than there are keys: K, their number */
+    PETALBUZZ_BLOCK_INDEX = 24,     /* a value's new start index would exceed 65535: its key */
+    PETALBUZZ_BLOCK_ROOM = 25,      /* the memory lent is too short: the bytes needed */
+    PETALBUZZ_NO_CITATION = 26,     /* the key is absent or no ASCII key: the key asked for */
+    PETALBUZZ_FAMILIES = 27,        /* tags of both strips and tiles, or of neither */
+};
+
+/* The kinds of keys. */
+enum petalbuzz_kind {
+    PETALBUZZ_SHORT = 0,
+    PETALBUZZ_DOUBLE = 1,
+    PETALBUZZ_ASCII = 2,
+    PETALBUZZ_OTHER = 3, /* none of the 45 known keys */
+};
+
 /* One key of an accepted file, with the place of its value. */
 typedef struct petalbuzz_row {
     uint32_t key;
-    uint32_t kind;   /* 0 SHORT, 1 DOUBLE, 2 ASCII, 3 other */
+    uint32_t kind;   /* as petalbuzz_kind has it */
     uint32_t first;  /* the value's first byte in the file */
     uint32_t length; /* in bytes */
 } petalbuzz_row;
 
 /* The symbols of the library. No pointer is null: an empty run has some
- * pointer too, with length 0. Numbers and rows are aligned as C aligns them,
- * and nothing that is written overlaps anything else that is lent. Nobody
- * writes or cuts a run while the call runs. */
+ * pointer too, with length 0. Numbers and rows are aligned as C aligns them. */
 
 /* Writes the verdict and the place. */
 void petalbuzz_judge(const uint8_t *file, size_t len, uint32_t *verdict, uint32_t *place);
 
-/* Writes the verdict and the place, and where the picture lies on the ground.
+/* Writes the verdict and the place, and where the picture lies on the ground:
+ * how column I and row J become X and Y, each operation rounded once, in the
+ * order in which it is written here.
  * form 0, scaled: six holds ti, tj, tx, ty, sx, sy.
+ *     X = tx + (I - ti) * sx
+ *     Y = ty - (J - tj) * sy
+ * ti and tj are column and row of the tiepoint in the picture, tx and ty its X
+ * and Y on the ground, sx and sy width and height of a pixel there.
  * form 1, affine: six holds m1, m2, m4, m5, m6, m8.
- * corners holds X and Y of the first corner, then X and Y of the second.
+ *     X = (m1 * I + m2 * J) + m4
+ *     Y = (m5 * I + m6 * J) + m8
+ * corners holds X and Y of the first corner, (I, J) = (0, 0), then X and Y of
+ * the second. Where key 1025 is 1, PixelIsArea, that is (width, length), and
+ * both are outer corners, of the first and the last pixel; where it is 2,
+ * PixelIsPoint, it is (width - 1, length - 1), and both are their centres.
  * With any verdict but 0, form is 0 and all ten doubles are +0. */
 void petalbuzz_ground(const uint8_t *file, size_t len, uint32_t *verdict, uint32_t *place,
                       uint32_t *form, double six[6], double corners[4]);
 
 /* Writes the verdict and the place, K, the number of keys, and the first K of
  * the lent rows, in the order of the key directory; the rows behind them keep
- * their content. K is at most 256.
- * Verdict 23: fewer rows are lent than K; place K. */
+ * their content. K is at most 256. Its own verdict: PETALBUZZ_FEW_ROWS. */
 void petalbuzz_rows(const uint8_t *file, size_t len, petalbuzz_row *rows, size_t room,
                     uint32_t *verdict, uint32_t *place, uint32_t *keys);
 
 /* Writes the verdict and the place, and the part of the file that holds the
- * text of an ASCII key (1026, 2049, 3073 or 4097), less its final "|".
- * Verdict 26: the key is absent or no ASCII key; place the key asked for. */
+ * text of an ASCII key (1026, 2049, 3073 or 4097), less its final "|". Its own
+ * verdict: PETALBUZZ_NO_CITATION. */
 void petalbuzz_citation(const uint8_t *file, size_t len, uint32_t key, uint32_t *verdict,
                         uint32_t *place, size_t *start, size_t *length);
 
@@ -73,9 +133,8 @@ void petalbuzz_metadata(const uint8_t *file, size_t len, const uint8_t *outside,
 
 /* Writes the verdict and the place, the key block at the start of out, and
  * the lengths in bytes of its three runs, which stand one behind the other:
- * directory, doubles, characters. The bytes behind the block stay.
- * Verdict 24: a value's new start index would exceed 65535; place the key.
- * Verdict 25: out is too short; place the bytes needed. */
+ * directory, doubles, characters. The bytes behind the block stay. Its own
+ * verdicts: PETALBUZZ_BLOCK_INDEX, then PETALBUZZ_BLOCK_ROOM. */
 void petalbuzz_key_block(const uint8_t *file, size_t len, uint8_t *out, size_t room,
                          uint32_t *verdict, uint32_t *place, size_t lengths[3]);
 
@@ -86,7 +145,7 @@ void petalbuzz_read_block(const uint8_t *directory, size_t directory_len, const 
                           size_t doubles_len, const uint8_t *characters, size_t characters_len,
                           uint32_t *verdict, uint32_t *place, uint32_t *keys);
 
-/* What the calls on any pointer answer. */
+/* What the *_file and *_runs functions answer. */
 
 typedef struct petalbuzz_judged {
     uint32_t verdict; /* 0: accepted */
@@ -122,8 +181,7 @@ typedef struct petalbuzz_block {
     size_t lengths[3]; /* in bytes: directory, doubles, characters */
 } petalbuzz_block;
 
-/* The run to lend for a pointer that may be null: a null one is an empty
- * run, whatever its length says. */
+/* The run to lend for a pointer that may be null. */
 static inline const uint8_t *petalbuzz_lent(const void *run, size_t *len) {
     static const uint8_t nothing = 0;
     if (run) return (const uint8_t *)run;
@@ -131,7 +189,7 @@ static inline const uint8_t *petalbuzz_lent(const void *run, size_t *len) {
     return &nothing;
 }
 
-/* Judges a file. An empty one (a null pointer too) has verdict 1. */
+/* Judges a file. */
 static inline petalbuzz_judged petalbuzz_judge_file(const void *file, size_t len) {
     petalbuzz_judged answer;
     const uint8_t *lent = petalbuzz_lent(file, &len);
@@ -148,7 +206,7 @@ static inline petalbuzz_grounded petalbuzz_ground_file(const void *file, size_t 
     return answer;
 }
 
-/* Judges a file and fills rows of its keys. Null rows are no room. */
+/* Judges a file and fills rows of its keys. */
 static inline petalbuzz_counted petalbuzz_rows_file(const void *file, size_t len,
                                                     petalbuzz_row *rows, size_t room) {
     petalbuzz_counted answer;
@@ -183,7 +241,7 @@ static inline petalbuzz_part petalbuzz_metadata_file(const void *file, size_t le
     return answer;
 }
 
-/* Judges a file and writes its key block. A null out is no room. */
+/* Judges a file and writes its key block. */
 static inline petalbuzz_block petalbuzz_key_block_file(const void *file, size_t len, void *out,
                                                        size_t room) {
     petalbuzz_block answer;
