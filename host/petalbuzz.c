@@ -1,212 +1,204 @@
 /* petalbuzz: judges files and whole deliveries, and says of each file what is
- * wrong and where, or what the judge found in it. Every number comes from the
- * library; here it only gets its name. */
-#define _POSIX_C_SOURCE 200809L
-#include "../include/petalbuzz.h"
-#include "files.h"
-#include "text.h"
-#include "words.h"
+ * wrong and where, or what was found in it. It words what the library answers,
+ * and judges nothing itself. */
+#define _XOPEN_SOURCE 700
+#define _DEFAULT_SOURCE
+#include "help.h"
+#include "input.h"
+#include "tell.h"
 
+/* What was built: the SHA-256 of the library, the digest of its sources, the kit
+ * that built it and on which machine, and whether docs/builds.txt lists that
+ * library for them: 1 it does, 0 it lists another one, -1 it lists none. */
 #ifndef LIBRARY
-#define LIBRARY "not named" /* else the SHA-256 of the library */
+#define LIBRARY "not named"
+#endif
+#ifndef SOURCES
+#define SOURCES "not named"
+#define KIT "not named"
+#define MACHINE "not named"
+#define EXPECTED -1
 #endif
 
-static const char usage[] = "petalbuzz [--plain | --json | --summary] [--] [FILE...]\n";
-static const char help[] =
-    "Judges GeoTIFF files by their bytes: rules " RULE_NUMBERS ", drawn from TIFF 6.0, GeoTIFF\n"
-    "and DGIWG 108.\n"
-    "\n"
-    "A FILE is a file, a directory, of which every file is judged, or - for standard input.\n"
-    "Without one it is file A, an example.\n"
-    "\n"
-    "  --plain    of each file the lines of the bench program, in numbers alone\n"
-    "  --json     of each file one JSON object on a line\n"
-    "  --summary  only how many files each rule refuses\n"
-    "  --help     prints this\n"
-    "  --version  prints which library judges\n"
-    "\n"
-    "Verdict 0 is accepted, any other number is the first broken rule; 27 comes directly after 8.\n"
-    "The place is a tag, the index of a strip or tile, or a key.\n"
-    "Status: 0 all accepted, 1 some refused, 2 some not read.\n";
+static struct record record; /* of the file at hand */
+static struct told (*tell)(struct record *, const char *, const struct whole *);
+static int summing; /* --summary is given */
 
-enum { MOST_KEYS = 256, ASCII = 2 };
+/* ---- totals ---- */
 
-/* ---- what is found in a file ---- */
+static size_t accepted, refused, unread;
+static petalbuzz_judged *judgements; /* of every file that was read, if there is a summary */
 
-struct found {
-    petalbuzz_grounded ground;
-    uint32_t keys;
-    petalbuzz_row rows[MOST_KEYS];
-    petalbuzz_part metadata;
-    char sentence[SENTENCE];
-};
-
-/* Asks the library. After a refusal only the sentence is of use. */
-static const struct found *look(const struct whole *file) {
-    static struct found f;
-    f.ground = petalbuzz_ground_file(file->bytes, file->len);
-    say(f.sentence, f.ground.verdict, f.ground.place);
-    if (f.ground.verdict != 0) return &f;
-    f.keys = petalbuzz_rows_file(file->bytes, file->len, f.rows, MOST_KEYS).keys;
-    f.metadata = petalbuzz_metadata_file(file->bytes, file->len, NULL, 0);
-    return &f;
-}
-
-/* The text of a key, if it is a citation. */
-static int cited(const struct whole *file, const petalbuzz_row *row, petalbuzz_part *text) {
-    if (row->kind != ASCII) return 0;
-    *text = petalbuzz_citation_file(file->bytes, file->len, row->key);
-    return text->verdict == 0;
-}
-
-/* ---- the four ways to tell it ----
- * Each tells of one file and answers the verdict. */
-
-/* The lines of the bench program. */
-static uint32_t tell_plain(const char *path, const struct whole *file) {
-    static petalbuzz_row rows[MOST_KEYS];
-    petalbuzz_counted a = petalbuzz_rows_file(file->bytes, file->len, rows, MOST_KEYS);
-    (void)path;
-    printf("verdict %u place %u\n", a.verdict, a.place);
-    if (a.verdict == 0) printf("keys %u\n", a.keys);
-    for (uint32_t i = 0; i < a.keys; i++)
-        printf("%u %u %u %u\n", rows[i].key, rows[i].kind, rows[i].first, rows[i].length);
-    return a.verdict;
-}
-
-/* Nothing: the summary comes at the end. */
-static uint32_t tell_number(const char *path, const struct whole *file) {
-    (void)path;
-    return petalbuzz_judge_file(file->bytes, file->len).verdict;
-}
-
-/* A line for each key, and one for its text. */
-static void tell_keys(const struct whole *file, const struct found *f) {
-    petalbuzz_part text;
-    for (uint32_t i = 0; i < f->keys; i++) {
-        const petalbuzz_row *row = &f->rows[i];
-        const char *name = find(keys, row->key)->name;
-        printf("  key       %-5u %-30s %-6s at %u, %u bytes\n", row->key, name ? name : "-",
-               kind_names[row->kind], row->first, row->length);
-        if (!cited(file, row, &text)) continue;
-        printf("            \"");
-        put_text(stdout, text.text, text.length);
-        printf("\"\n");
-    }
-}
-
-/* All that is found in an accepted file. */
-static void tell_found(const struct whole *file, const struct found *f) {
-    const petalbuzz_grounded *g = &f->ground;
-    printf("  %-9s", form_names[g->form]);
-    for (int i = 0; i < 6; i++) {
-        printf(" %s ", six_names[g->form][i]);
-        put_double(g->six[i]);
-    }
-    for (int i = 0; i < 4; i++) {
-        printf(i % 2 == 0 ? "\n  corner    " : " ");
-        put_double(g->corners[i]);
-    }
-    printf("\n");
-    tell_keys(file, f);
-    if (f->metadata.from == 0)
-        printf("  metadata  at %zu, %zu bytes\n", f->metadata.start, f->metadata.length);
-    else
-        printf("  metadata  none\n");
-}
-
-/* Path, verdict, place and sentence, and what is found. */
-static uint32_t tell_words(const char *path, const struct whole *file) {
-    const struct found *f = look(file);
-    put_text(stdout, path, strlen(path));
-    printf(": verdict %u place %u: %s\n", f->ground.verdict, f->ground.place, f->sentence);
-    if (f->ground.verdict == 0) tell_found(file, f);
-    return f->ground.verdict;
-}
-
-/* The members of the georeference and of the corners. */
-static void put_json_ground(const petalbuzz_grounded *g) {
-    printf(",\"form\":\"%s\",\"six\":{", form_names[g->form]);
-    for (int i = 0; i < 6; i++) {
-        printf("%s\"%s\":", i > 0 ? "," : "", six_names[g->form][i]);
-        put_double(g->six[i]);
-    }
-    printf("},\"corners\":[");
-    for (int i = 0; i < 4; i++) {
-        printf(i % 2 == 1 ? "," : i > 0 ? "],[" : "[");
-        put_double(g->corners[i]);
-    }
-    printf("]]");
-}
-
-/* The elements of the list of keys. */
-static void put_json_keys(const struct found *f) {
-    for (uint32_t i = 0; i < f->keys; i++) {
-        const petalbuzz_row *row = &f->rows[i];
-        const char *name = find(keys, row->key)->name, *quote = name ? "\"" : "";
-        printf("%s{\"key\":%u,\"name\":%s%s%s,\"kind\":\"%s\",\"first\":%u,\"length\":%u}",
-               i > 0 ? "," : "", row->key, quote, name ? name : "null", quote,
-               kind_names[row->kind], row->first, row->length);
-    }
-}
-
-/* The elements of the list of citations. */
-static void put_json_citations(const struct whole *file, const struct found *f) {
-    petalbuzz_part text;
-    const char *comma = "";
-    for (uint32_t i = 0; i < f->keys; i++) {
-        if (!cited(file, &f->rows[i], &text)) continue;
-        printf("%s{\"key\":%u,\"first\":%zu,\"length\":%zu,", comma, f->rows[i].key, text.start,
-               text.length);
-        put_member("text", text.text, text.length);
-        printf("}");
-        comma = ",";
-    }
-}
-
-/* The members that only an accepted file has. */
-static void put_json_found(const struct whole *file, const struct found *f) {
-    put_json_ground(&f->ground);
-    printf(",\"keys\":[");
-    put_json_keys(f);
-    printf("],\"citations\":[");
-    put_json_citations(file, f);
-    printf("],\"metadata\":");
-    if (f->metadata.from == 0)
-        printf("{\"first\":%zu,\"length\":%zu}", f->metadata.start, f->metadata.length);
-    else
-        printf("null");
-}
-
-/* One JSON object on a line. */
-static uint32_t tell_json(const char *path, const struct whole *file) {
-    const struct found *f = look(file);
-    printf("{");
-    put_member("path", path, strlen(path));
-    printf(",\"verdict\":%u,\"place\":%u,", f->ground.verdict, f->ground.place);
-    put_member("sentence", f->sentence, strlen(f->sentence));
-    if (f->ground.verdict == 0) put_json_found(file, f);
-    printf("}\n");
-    return f->ground.verdict;
-}
-
-/* ---- the files ---- */
-
-static uint32_t (*tell)(const char *, const struct whole *) = tell_words;
-static size_t by_verdict[RULES], judged, unread;
-
-/* Names on standard error what is wrong with a word or a file. */
+/* Writes to standard error what is wrong with a word or a file. */
 static void complain(const char *word, const char *why) {
-    fflush(stdout);
-    fprintf(stderr, "petalbuzz: ");
-    put_text(stderr, word, strlen(word));
-    fprintf(stderr, ": %s\n", why);
+    struct record line = {0};
+    add(&line, "petalbuzz: ");
+    add_text(&line, word, strlen(word));
+    add(&line, ": ");
+    add(&line, why);
+    add(&line, "\n");
+    write_record(2, &line);
+    free(line.bytes);
+}
+
+static void end(int status) {
+    free(record.bytes);
+    free(judgements);
+    exit(status);
+}
+
+/* Writes the record of a file, or of the end. After a record that is not whole none
+ * may follow. */
+static void put_record(void) {
+    if (!record.failed && write_record(1, &record)) return;
+    complain("standard output", "not all could be written");
+    end(NOT_READ);
 }
 
 static void not_read(const char *path, const char *why) {
     complain(path, why);
     unread++;
+    if (tell != tell_json) return;
+    add(&record, "{");
+    add_member(&record, "path", path, strlen(path));
+    add_json_word(&record, "not_read", why);
+    add(&record, "}\n");
+    put_record();
 }
+
+/* Counts a file that was read. The list has room for a power of two. */
+static void count(petalbuzz_judged judged) {
+    size_t all = accepted + refused;
+    if (summing && (all & (all - 1)) == 0) {
+        petalbuzz_judged *moved = realloc(judgements, 2 * (all + 1) * sizeof *moved);
+        if (!moved) {
+            complain("--summary", "there is no memory for so many files");
+            end(NOT_READ);
+        }
+        judgements = moved;
+    }
+    if (summing) judgements[all] = judged;
+    if (judged.verdict == 0)
+        accepted++;
+    else
+        refused++;
+}
+
+static int by_number(const void *one, const void *other) {
+    const petalbuzz_judged *a = one, *b = other;
+    if (a->verdict != b->verdict) return a->verdict < b->verdict ? -1 : 1;
+    return a->place < b->place ? -1 : a->place > b->place;
+}
+
+/* How many judgements from one on are of the same verdict, or of the same place too. */
+static size_t run_of(size_t from, int with_place) {
+    size_t n = 1;
+    while (from + n < accepted + refused &&
+           judgements[from + n].verdict == judgements[from].verdict &&
+           (!with_place || judgements[from + n].place == judgements[from].place))
+        n++;
+    return n;
+}
+
+/* A count as wide as a column. */
+static void add_count(struct record *to, size_t width, size_t count) {
+    char text[24];
+    int digits = snprintf(text, sizeof text, "%zu", count);
+    while (digits >= 0 && (size_t)digits++ < width) add(to, " ");
+    add(to, text);
+}
+
+/* How many files have each verdict, and each place where the rule has one. */
+static void add_verdicts(struct record *to) {
+    char sentence[SENTENCE];
+    for (size_t at = 0, all; at < accepted + refused; at += all) {
+        uint32_t verdict = judgements[at].verdict;
+        all = run_of(at, 0);
+        add_count(to, 7, all);
+        add(to, "  verdict ");
+        add_number(to, verdict);
+        say_rule(sentence, verdict);
+        add(to, ": ");
+        add(to, sentence);
+        add(to, "\n");
+        if (!has_place(verdict)) continue;
+        for (size_t i = at, n; i < at + all; i += n) {
+            n = run_of(i, 1);
+            add_count(to, 15, n);
+            say_place(sentence, verdict, judgements[i].place);
+            add(to, "  at ");
+            add(to, sentence);
+            add(to, "\n");
+        }
+    }
+}
+
+/* The same as JSON. */
+static void add_json_verdicts(struct record *to) {
+    char sentence[SENTENCE];
+    for (size_t at = 0, all; at < accepted + refused; at += all) {
+        all = run_of(at, 0);
+        say_rule(sentence, judgements[at].verdict);
+        add_json_number(to, at > 0 ? ",{" : "{", "verdict", judgements[at].verdict);
+        add_json_word(to, "sentence", sentence);
+        add_json_number(to, ",", "files", all);
+        add(to, ",\"places\":[");
+        for (size_t i = at, n; i < at + all; i += n) {
+            n = run_of(i, 1);
+            add_json_number(to, i > at ? ",{" : "{", "place", judgements[i].place);
+            add_json_number(to, ",", "files", n);
+            add(to, "}");
+        }
+        add(to, "]}");
+    }
+}
+
+/* The last JSON object: the totals, and what judged. */
+static void add_json_totals(struct record *to) {
+    add_json_number(to, "{\"totals\":{", "judged", accepted + refused);
+    add_json_number(to, ",", "accepted", accepted);
+    add_json_number(to, ",", "refused", refused);
+    add_json_number(to, ",", "not_read", unread);
+    add(to, "}");
+    if (summing) {
+        add(to, ",\"verdicts\":[");
+        add_json_verdicts(to);
+        add(to, "]");
+    }
+    add_json_word(to, "rules", RULE_NUMBERS);
+    add_json_word(to, "library", LIBRARY);
+    add(to, EXPECTED > 0 ? ",\"expected\":true" : EXPECTED == 0 ? ",\"expected\":false" : ",\"expected\":null");
+    add_json_word(to, "sources", SOURCES);
+    add_json_word(to, "kit", KIT);
+    add_json_word(to, "machine", MACHINE);
+    add(to, "}\n");
+}
+
+static void add_totals(struct record *to) {
+    add_verdicts(to);
+    add_count(to, 7, accepted + refused);
+    add(to, "  judged: ");
+    add_number(to, accepted);
+    add(to, " accepted, ");
+    add_number(to, refused);
+    add(to, " refused; ");
+    add_number(to, unread);
+    add(to, " not read\n");
+}
+
+/* What stands behind all records. */
+static void tell_totals(void) {
+    if (!summing && tell != tell_json) return;
+    if (summing && accepted + refused > 0)
+        qsort(judgements, accepted + refused, sizeof judgements[0], by_number);
+    if (tell == tell_json)
+        add_json_totals(&record);
+    else
+        add_totals(&record);
+    put_record();
+}
+
+/* ---- the files ---- */
 
 /* Bytes of a mapped file that cannot be read, on a bad card or because the file
  * was cut meanwhile, come as a signal. */
@@ -216,20 +208,33 @@ static void leave(int number) {
     siglongjmp(unreadable, 1);
 }
 
-static void count(uint32_t verdict) {
-    judged++;
-    if (verdict < RULES) by_verdict[verdict]++;
+/* Tells of a file that is lent. */
+static struct told look_at(const char *path, const struct whole *file) {
+    struct told told = {{0, 0}, "cannot be read to its end"};
+    signal(SIGBUS, leave);
+    if (sigsetjmp(unreadable, 1) == 0) {
+        struct told seen = tell(&record, path, file);
+        signal(SIGBUS, SIG_DFL);
+        if (!seen.wrong && !is_unchanged(file)) seen.wrong = changed;
+        if (!seen.wrong && record.failed) seen.wrong = "there is no memory to tell of it";
+        return seen;
+    }
+    signal(SIGBUS, SIG_DFL);
+    return told;
 }
 
-/* Judges a file that is lent, tells of it and gives it back. */
+/* Judges a file that is lent and gives it back: a whole record, or none. */
 static void judge(const char *path, struct whole *file) {
-    signal(SIGBUS, leave);
-    if (sigsetjmp(unreadable, 1) == 0)
-        count(tell(path, file));
-    else
-        not_read(path, "cannot be read to its end");
-    signal(SIGBUS, SIG_DFL);
+    struct told told = look_at(path, file);
     give_back(file);
+    if (told.wrong) {
+        record.len = 0;
+        record.failed = 0;
+        not_read(path, told.wrong);
+        return;
+    }
+    count(told.judged);
+    put_record();
 }
 
 static void judge_file(const char *path) {
@@ -243,7 +248,7 @@ static void judge_file(const char *path) {
 
 static void judge_input(void) {
     struct whole file;
-    const char *wrong = read_whole(0, &file);
+    const char *wrong = lend_input(&file);
     if (wrong)
         not_read("-", wrong);
     else
@@ -296,10 +301,11 @@ static const char *read_names(const char *path, struct names *all) {
 
 static void judge_path(const char *path, int inside);
 
-/* Judges every file of a directory and of those in it. */
+/* Judges every file of a directory and of those in it. An empty one is named. */
 static void judge_directory(const char *path) {
     struct names all = {NULL, 0};
     const char *wrong = read_names(path, &all);
+    if (!wrong && all.count == 0) wrong = "holds no file";
     if (wrong) not_read(path, wrong);
     if (all.count > 0) qsort(all.name, all.count, sizeof all.name[0], by_bytes);
     for (size_t i = 0; i < all.count; i++) {
@@ -325,58 +331,60 @@ static void judge_path(const char *path, int inside) {
 
 /* Judges what is named on the command line. */
 static void judge_named(const char *path) {
-    size_t before = judged + unread;
     if (strcmp(path, "-") == 0)
         judge_input();
     else
         judge_path(path, 0);
-    if (judged + unread == before) not_read(path, "holds no file");
-}
-
-/* How many files have each verdict, and the totals. */
-static void summarise(void) {
-    char sentence[SENTENCE];
-    for (uint32_t i = 0; i < RULES; i++) {
-        if (by_verdict[i] == 0) continue;
-        say_rule(sentence, i);
-        printf("%7zu  verdict %u: %s\n", by_verdict[i], i, sentence);
-    }
-    printf("%7zu  judged: %zu accepted, %zu refused; %zu not read\n", judged, by_verdict[0],
-           judged - by_verdict[0], unread);
-}
-
-/* Ends the program with its status. */
-static void end(void) {
-    if (fflush(stdout) != 0 || ferror(stdout))
-        not_read("standard output", "not all could be written");
-    exit(unread > 0 ? NOT_READ : judged > by_verdict[0] ? REFUSED : ACCEPTED);
 }
 
 /* ---- options ---- */
 
 static const struct {
     const char *name;
-    uint32_t (*tell)(const char *, const struct whole *);
-} ways[] = {{"--plain", tell_plain}, {"--json", tell_json}, {"--summary", tell_number}};
+    struct told (*tell)(struct record *, const char *, const struct whole *);
+} ways[] = {{"--text", tell_words}, {"--plain", tell_plain}, {"--json", tell_json}};
+
+/* Prints what judges, a fact a line. */
+static void tell_version(void) {
+    static const char *const seen[] = {"none is listed for this kit and machine",
+        "NOT the one that docs/builds.txt lists for this kit and machine", "the expected one"};
+    const char *const facts[] = {"petalbuzz: rules ", RULE_NUMBERS, "\nlibrary: SHA-256 ", LIBRARY,
+        ", ", seen[EXPECTED + 1], "\nsources: SHA-256 ", SOURCES, "\nkit: ", KIT, ", ", MACHINE, "\n"};
+    for (size_t i = 0; i < sizeof facts / sizeof facts[0]; i++) add(&record, facts[i]);
+}
+
+/* Takes the way to tell that an option names; 0 if it names none. */
+static int take_way(const char *word) {
+    for (size_t i = 0; i < sizeof ways / sizeof ways[0]; i++) {
+        if (strcmp(word, ways[i].name) != 0) continue;
+        if (tell && tell != ways[i].tell) {
+            complain(word, "only one of --text, --plain and --json can be given");
+            end(NOT_READ);
+        }
+        tell = ways[i].tell;
+        return 1;
+    }
+    return 0;
+}
 
 /* Takes one option; ends the program for those that judge nothing. */
 static void take_option(const char *word) {
-    for (size_t i = 0; i < sizeof ways / sizeof ways[0]; i++)
-        if (strcmp(word, ways[i].name) == 0 && (tell == tell_words || tell == ways[i].tell)) {
-            tell = ways[i].tell;
-            return;
-        }
-    if (strcmp(word, "--help") == 0) {
-        printf("%s%s", usage, help);
-        end();
+    int helps = strcmp(word, "--help") == 0 || strcmp(word, "-h") == 0;
+    if (take_way(word)) return;
+    if (strcmp(word, "--summary") == 0) {
+        summing = 1;
+        return;
     }
-    if (strcmp(word, "--version") == 0) {
-        printf("petalbuzz: rules %s; libpetalbuzz.a with SHA-256 %s\n", RULE_NUMBERS, LIBRARY);
-        end();
+    if (!helps && strcmp(word, "--version") != 0) {
+        complain(word, "is not an option here; --help lists them");
+        end(NOT_READ);
     }
-    complain(word, "is not an option here");
-    fprintf(stderr, "%s", usage);
-    exit(NOT_READ);
+    if (helps)
+        add(&record, help);
+    else
+        tell_version();
+    put_record();
+    end(ACCEPTED);
 }
 
 /* Takes all options and leaves the paths in front: how many. */
@@ -390,22 +398,24 @@ static int take_options(int argc, char **argv) {
         else
             take_option(argv[i]);
     }
+    if (!tell) tell = summing ? tell_number : tell_words;
     return paths;
 }
 
 /* The script names file A in PETALBUZZ_EXAMPLE, for when no file is named. */
 int main(int argc, char **argv) {
+    keep_records_whole();
     int paths = take_options(argc, argv);
     const char *example = getenv("PETALBUZZ_EXAMPLE");
     if (paths == 0 && !example) {
-        fprintf(stderr, "petalbuzz: no file is named\n%s", usage);
-        return NOT_READ;
+        complain("no file is named", "--help says more");
+        end(NOT_READ);
     }
     if (paths == 0) {
         complain(example, "this is file A, as no file is named");
         judge_named(example);
     }
     for (int i = 0; i < paths; i++) judge_named(argv[i]);
-    if (tell == tell_number) summarise();
-    end();
+    tell_totals();
+    end(unread > 0 ? NOT_READ : refused > 0 ? REFUSED : ACCEPTED);
 }

@@ -139,6 +139,42 @@ static const char *const kind_names[] = {"SHORT", "DOUBLE", "ASCII", "other"};
 static const char *const form_names[] = {"scaled", "affine"};
 static const char *const six_names[][6] = {{"ti", "tj", "tx", "ty", "sx", "sy"},
                                            {"m1", "m2", "m4", "m5", "m6", "m8"}};
+static const char *const six_say[] = {
+    "column ti and row tj of the picture lie at X = tx, Y = ty; a pixel is sx wide and sy high, and "
+    "Y falls with the row",
+    "X = m1 x column + m2 x row + m4, Y = m5 x column + m6 x row + m8"};
+
+/* The two corners, where key 1025 is 1 and where it is 2. */
+static const char *const corners_say[][2] = {
+    {"column 0, row 0, the outer corner of the first pixel",
+        "column = width, row = length, the outer corner of the last pixel"},
+    {"column 0, row 0, the centre of the first pixel",
+        "column = width - 1, row = length - 1, the centre of the last pixel"}};
+
+/* What a value of a key means, from a first one to a last one, by its name in the
+ * EPSG register. Of zones the number stands between two words. */
+static const struct meaning {
+    uint32_t key, first, last;
+    const char *words, *behind;
+} meanings[] = {
+    {1024, 1, 1, "projected", NULL},
+    {1024, 2, 2, "geographic", NULL},
+    {1025, 1, 1, "PixelIsArea", NULL},
+    {1025, 2, 2, "PixelIsPoint", NULL},
+    {2048, 4326, 4326, "WGS 84, longitude and latitude", NULL},
+    {2054, 9102, 9102, "degree", NULL},
+    {3072, 32601, 32660, "WGS 84 / UTM zone ", "N"},
+    {3072, 32661, 32661, "WGS 84 / UPS North", NULL},
+    {3072, 32701, 32760, "WGS 84 / UTM zone ", "S"},
+    {3072, 32761, 32761, "WGS 84 / UPS South", NULL},
+    {3076, 9001, 9001, "metre", NULL},
+    {4096, 3855, 3855, "EGM2008 height", NULL},
+    {4096, 4979, 4979, "WGS 84, height above the ellipsoid", NULL},
+    {4096, 5714, 5714, "MSL height", NULL},
+    {4096, 5715, 5715, "MSL depth", NULL},
+    {4096, 5773, 5773, "EGM96 height", NULL},
+    {4096, 5798, 5798, "EGM84 height", NULL},
+};
 
 /* What a rule's place is the number of. Of a piece the two numbers do not tell
  * whether it is a strip or a tile. */
@@ -164,7 +200,8 @@ static const struct rule {
     [0] = {.wrong = "accepted"},
     [1] = {.wrong = "the file's length is below 8 or above 4,294,967,295"},
     [2] = {.wrong = "bytes 0-1 are neither order, 49 49 or 4D 4D"},
-    [3] = {.wrong = "the number in bytes 2-3 is not 42"},
+    [3] = {.wrong = "the number in bytes 2-3 is not 42, that of a classic TIFF file; 43 is BigTIFF, "
+                    "which is not judged"},
     [4] = {.wrong = "the directory offset is odd, below 8, or offset + 2 exceeds the file's "
                     "length"},
     [5] = {.wrong = "the directory's count is 0 or above 1,024, or the directory ends past the end "
@@ -172,7 +209,8 @@ static const struct rule {
     [6] = {&a_tag, .wrong = "is not greater than the one before"},
     [7] = {&a_tag, .wrong = "has count 0, or its value of more than 4 bytes starts odd, below 8, "
                             "or ends past the end of the file"},
-    [8] = {.wrong = "the next offset is not 0"},
+    [8] = {.wrong = "the next offset is not 0: another directory follows, as for a second page, an "
+                    "overview or a mask"},
     [27] = {.wrong = "tags of both strips (273, 278, 279) and tiles (322 to 325) are present, or of "
                      "neither"},
     [9] = {&a_tag, "is needed and absent", ", ", NEEDED},
@@ -180,9 +218,12 @@ static const struct rule {
     [11] = {&a_tag, "has a value that is not allowed", "; allowed: ", ALLOWED},
     [12] = {&a_tag, "disagrees with other tags", ": ", FAULT},
     [13] = {&a_piece, .wrong = "has byte count 0, an offset below 8, or ends past the end of the "
-                               "file"},
-    [14] = {&a_piece, .wrong = "shares a byte with the reading list: the head, the directory and "
-                               "the values of the table's tags"},
+                               "file: look at its offset (tag 273 or 324), its byte count (279 or "
+                               "325) and the file's length"},
+    [14] = {&a_piece, .wrong = "shares a byte with the reading list, which is the head, the "
+                               "directory and the values of the table's tags: look at where its "
+                               "bytes begin and end (tags 273 and 279, or 324 and 325) and where "
+                               "these stand"},
     [15] = {.wrong = "the key directory's first three numbers are not 1, 1, 0, or the fourth, K, "
                      "exceeds 256, or the tag's count is below 4 + 4K"},
     [16] = {&a_key, .wrong = "is not greater than the one before"},
@@ -202,6 +243,20 @@ static const struct thing *find(const struct thing *row, uint32_t number) {
     return row;
 }
 
+/* Writes what a value of a key means; nothing where no meaning is known. */
+enum { MEANING = 64 };
+static void mean(char words[MEANING], uint32_t key, uint32_t value) {
+    words[0] = 0;
+    for (size_t i = 0; i < sizeof meanings / sizeof meanings[0]; i++) {
+        const struct meaning *m = &meanings[i];
+        if (m->key != key || value < m->first || value > m->last) continue;
+        if (m->behind)
+            snprintf(words, MEANING, "%s%u%s", m->words, value - m->first + 1, m->behind);
+        else
+            snprintf(words, MEANING, "%s", m->words);
+    }
+}
+
 /* The rule of a verdict, or null. */
 static const struct rule *rule_of(uint32_t verdict) {
     return verdict < RULES && rules[verdict].wrong ? &rules[verdict] : NULL;
@@ -218,21 +273,30 @@ static void say_rule(char sentence[SENTENCE], uint32_t verdict) {
         snprintf(sentence, SENTENCE, "a %s %s", rule->place->word, rule->wrong);
 }
 
+static int has_place(uint32_t verdict) {
+    const struct rule *rule = rule_of(verdict);
+    return rule && rule->place;
+}
+
+/* Writes what a place is, its number, and its name if it has one. */
+static void say_place(char words[SENTENCE], uint32_t verdict, uint32_t place) {
+    const struct noun *noun = rules[verdict].place;
+    const char *name = noun->named ? find(noun->named, place)->name : NULL;
+    snprintf(words, SENTENCE, "%s %u%s%s%s", noun->word, place, name ? " (" : "", name ? name : "",
+             name ? ")" : "");
+}
+
 /* Writes the sentence of a rule, for one place. */
 static void say(char sentence[SENTENCE], uint32_t verdict, uint32_t place) {
-    const struct rule *rule = rule_of(verdict);
-    if (!rule || !rule->place) {
+    if (!has_place(verdict)) {
         say_rule(sentence, verdict);
         return;
     }
-    const char *name = NULL, *more = NULL;
-    if (rule->place->named) {
-        const struct thing *row = find(rule->place->named, place);
-        name = row->name;
-        if (rule->joint) more = row->says[rule->more];
-    }
-    snprintf(sentence, SENTENCE, "%s %u%s%s%s %s%s%s", rule->place->word, place, name ? " (" : "",
-             name ? name : "", name ? ")" : "", rule->wrong, more ? rule->joint : "",
+    const struct rule *rule = rule_of(verdict);
+    const char *more = rule->joint ? find(rule->place->named, place)->says[rule->more] : NULL;
+    say_place(sentence, verdict, place);
+    size_t len = strlen(sentence);
+    snprintf(sentence + len, SENTENCE - len, " %s%s%s", rule->wrong, more ? rule->joint : "",
              more ? more : "");
 }
 

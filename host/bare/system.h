@@ -13,26 +13,53 @@ extern "C" {
 #define NULL ((void *)0)
 
 #define O_RDONLY 0
+#define O_WRONLY 1
 #define O_NONBLOCK 04000
+#define SEEK_CUR 1
+#define SEEK_END 2
+#define LOCK_EX 2
+#define LOCK_UN 8
+#define POLLOUT 4
 #define PROT_READ 1
+#define PROT_WRITE 2
 #define MAP_PRIVATE 2
+#define MAP_ANONYMOUS 0x20
+#define MAP_NORESERVE 0x4000
 #define MAP_FAILED ((void *)-1)
 #define EINTR 4
+#define EAGAIN 11
+#define SIGHUP 1
+#define SIGINT 2
 #define SIGBUS 7
+#define SIGTERM 15
 #define SIG_DFL ((void (*)(int))0)
+#define SIG_IGN ((void (*)(int))1)
 #define S_ISDIR(mode) (((mode) & 0170000) == 0040000)
 #define S_ISREG(mode) (((mode) & 0170000) == 0100000)
 #define S_ISLNK(mode) (((mode) & 0170000) == 0120000)
+#define S_ISFIFO(mode) (((mode) & 0170000) == 0010000)
 
 typedef long ssize_t;
 typedef long off_t;
+typedef int sig_atomic_t;
+
+struct timespec {
+    long tv_sec, tv_nsec;
+};
 
 struct stat {
     unsigned long st_dev, st_ino, st_nlink;
     unsigned int st_mode, st_uid, st_gid, bare_gap;
     unsigned long st_rdev;
     off_t st_size;
-    long bare_rest[11];
+    long st_blksize, st_blocks;
+    struct timespec st_atim, st_mtim, st_ctim;
+    long bare_rest[3];
+};
+
+struct pollfd {
+    int fd;
+    short events, revents;
 };
 
 struct dirent {
@@ -49,6 +76,7 @@ int __sigsetjmp(sigjmp_buf here, int mask) __attribute__((__returns_twice__));
 #define sigsetjmp(here, mask) __sigsetjmp(here, mask)
 void siglongjmp(sigjmp_buf there, int answer) __attribute__((__noreturn__));
 void (*signal(int number, void (*handler)(int)))(int);
+int raise(int number);
 
 int *__errno_location(void);
 #define errno (*__errno_location())
@@ -58,6 +86,10 @@ int fstat(int fd, struct stat *to);
 int stat(const char *path, struct stat *to);
 int lstat(const char *path, struct stat *to);
 int close(int fd);
+int dup(int fd);
+int flock(int fd, int how);
+int poll(struct pollfd *of, unsigned long n, int milliseconds);
+off_t lseek(int fd, off_t to, int from);
 ssize_t read(int fd, void *to, size_t n);
 ssize_t write(int fd, const void *from, size_t n);
 void *mmap(void *at, size_t len, int protection, int flags, int fd, off_t from);
@@ -73,6 +105,7 @@ void *realloc(void *old, size_t n);
 void free(void *old);
 void qsort(void *from, size_t n, size_t size, int (*order)(const void *, const void *));
 double strtod(const char *from, char **end);
+unsigned long strtoul(const char *from, char **end, int base);
 char *getenv(const char *name);
 void exit(int status) __attribute__((__noreturn__));
 
@@ -81,6 +114,7 @@ void *memmove(void *to, const void *from, size_t n);
 void *memcpy(void *to, const void *from, size_t n);
 size_t strlen(const char *from);
 char *strpbrk(const char *from, const char *any);
+char *strstr(const char *from, const char *part);
 int strcmp(const char *one, const char *other);
 char *strerror(int number);
 
