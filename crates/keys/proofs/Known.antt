@@ -9,7 +9,7 @@ use lib.ListN.{getD, List·getD-map}
 use borrow.Author.Tests.{eqb-true, ne-eqb, lt-ltb, le-ltb}
 use Rattle.paper.specs.Outcome.{ascending, ascendingFrom}
 use Rattle.paper.specs.Tests.{all}
-use Rattle.paper.specs.Keys.{Known, known, knownKeys, kindIn, kindOf, OTHER}
+use Rattle.paper.specs.Keys.{Known, known, knownKeys, kindIn, kindOf, otherKind}
 use Rattle.paper.specs.declared.Outcome.the-variants.{Kept as kept}
 use Rattle.paper.proofs.Laws.{and-eq, all-at}
 use Rattle.keys.specs.Table.{keyNumbers, keyKinds, slotOf}
@@ -35,14 +35,14 @@ unfolding all knownKeys keyNumbers slotOf
 each-there = refl
 
 -- a test that passes at each key of a table fails only at what is none of them
-unknown-in : (f : ℕ → Bool) (xs : List Known) (k : ℕ) → all (λ x. f (x .key)) xs ≡ true → f k ≡ false → kindIn k xs ≡ OTHER
+unknown-in : (f : ℕ → Bool) (xs : List Known) (k : ℕ) → all (λ x. f (x .key)) xs ≡ true → f k ≡ false → kindIn k xs ≡ otherKind
 unfolding all kindIn
 unknown-in f [] k t h = refl
 unknown-in f (x ∷ xs) k t h =
     let b = and-eq (f (x .key)) (all (λ y. f (y .key)) xs) t in
     rw (ne-eqb (x .key) k (λ e. true≢false (sym (b .0) ∙ (ap f e ∙ h)))) (unknown-in f xs k (b .1) h)
 
-unknown : (k : ℕ) → there k ≡ false → kindOf k ≡ OTHER
+unknown : (k : ℕ) → there k ≡ false → kindOf k ≡ otherKind
 unfolding kindOf
 unknown k h = unknown-in there knownKeys k each-there h
 

@@ -14,7 +14,7 @@ use Rattle.paper.specs.Bytes.{build}
 use Rattle.paper.specs.Outcome.{ascending, ascendingFrom, firstBad, first}
 use Rattle.paper.specs.Tests.{all}
 use Rattle.paper.specs.Key
-use Rattle.paper.specs.Keys.{Runs, SHORT, knownKeys, kindIn, kindOf, short, keyAt, room, rightPlace, misplaced, rule16, rule17, keyValue}
+use Rattle.paper.specs.Keys.{Runs, shortKind, knownKeys, kindIn, kindOf, short, keyAt, room, rightPlace, misplaced, rule16, rule17, keyValue}
 use Rattle.paper.specs.declared.KeyEntry.{KeyEntry}
 use Rattle.paper.specs.declared.Outcome.{Outcome}
 use Rattle.paper.specs.declared.Outcome.the-variants.{Kept as kept, Broken as broken}
@@ -114,15 +114,15 @@ unfolding misplaced
 misplaced-by r e k p h q = ap not (h ∙ ap (rightPlace r e) q)
 
 -- a key that is asked for has kind SHORT
-index-out : (k : ℕ) (ks : List ℕ) → all (λ a. eqb (kindOf a) SHORT) ks ≡ true → (kindOf k ≡ SHORT → ⊥) → indexOf k ks ≡ length ks
+index-out : (k : ℕ) (ks : List ℕ) → all (λ a. eqb (kindOf a) shortKind) ks ≡ true → (kindOf k ≡ shortKind → ⊥) → indexOf k ks ≡ length ks
 unfolding indexOf all
 index-out k [] h n = refl
 index-out k (a ∷ ks) h n =
-    let b = and-eq (eqb (kindOf a) SHORT) _ h in
+    let b = and-eq (eqb (kindOf a) shortKind) _ h in
     let m : k ≡ a → ⊥ = λ e. n (ap kindOf e ∙ eqb-true _ _ (b .0)) in
     rw (ne-eqb k a m) (ap suc (index-out k ks (b .1) n))
 
-pub asked-short : (k : ℕ) → (kindOf k ≡ SHORT → ⊥) → 7 ≤ indexOf k askedKeys
+pub asked-short : (k : ℕ) → (kindOf k ≡ shortKind → ⊥) → 7 ≤ indexOf k askedKeys
 unfolding all kindOf kindIn knownKeys
 asked-short k n = let e : indexOf k askedKeys ≡ 7 = index-out k askedKeys refl n in omega arith
 

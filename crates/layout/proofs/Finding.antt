@@ -17,7 +17,7 @@ use Rattle.paper.specs.declared.Entry.{Entry}
 use Rattle.paper.specs.Tests.{all}
 use Rattle.paper.proofs.Laws.{and-eq}
 use Rattle.paper.proofs.Store.{distinct}
-use Rattle.paper.specs.Tags.{findEntry}
+use Rattle.paper.proofs.Loops.{findEntry}
 use Rattle.layout.specs.Finding.{cellOf, cellTags, cellSlots, inCell, placeFrom, placeIn, places, foundOf}
 use Rattle.paper.specs.Tests.{indexOf}
 use Rattle.layout.specs.Columns.{tags}

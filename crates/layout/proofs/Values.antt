@@ -19,7 +19,7 @@ use Rattle.paper.specs.Tests.{all, some}
 use Rattle.paper.specs.Tags.{Line, table, inTable, listed, hold, find, bytesOf}
 use Rattle.paper.specs.Judge.{Head, dirRules}
 use Rattle.paper.proofs.Laws.{all-at}
-use Rattle.paper.specs.Tags.{findEntry}
+use Rattle.paper.proofs.Loops.{findEntry}
 use Rattle.paper.proofs.Bounds.{entry-inside}
 use Rattle.paper.proofs.First.{kept-first}
 use Rattle.layout.specs.Finding.{foundOf}

@@ -12,8 +12,8 @@ use Rattle.paper.specs.Bytes.{run, num, build}
 use Rattle.paper.specs.Outcome.{Outcome, kept, first}
 use Rattle.paper.specs.Layout.{odd, dirLen, sizes, sizeOf, typed, badValue, entryAt, entryOf, startOf, entries, rule1, rule4, rule5, rule7}
 use Rattle.paper.specs.Tests.{all, some}
-use Rattle.paper.specs.Tags.{findEntry, Line, line, no, any, has, fitsLine, misfits, rule10, Held, hold, find, absent, listed, inTable, table, bytesOf}
-use Rattle.paper.proofs.Loops.{find-entry}
+use Rattle.paper.specs.Tags.{Line, line, no, any, has, fitsLine, misfits, rule10, Held, hold, find, absent, listed, inTable, table, bytesOf}
+use Rattle.paper.proofs.Loops.{findEntry, find-entry}
 use Rattle.paper.proofs.Laws.{all-at, breaks-kept, or-false, and-eq, kept-all, run-length-in, length-build, getD-build}
 use Rattle.paper.specs.declared.Entry.{Entry}
 

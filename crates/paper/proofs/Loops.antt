@@ -12,10 +12,15 @@ use Rattle.paper.specs.Bytes.{num, build, elems}
 use Rattle.paper.specs.Outcome.{Outcome, kept, broken, firstBad, ascending, ascendingFrom}
 use Rattle.paper.specs.Layout.{entryAt, entryOf, entries, rule6}
 use Rattle.paper.specs.Tests.{all, some, keep}
-use Rattle.paper.specs.Tags.{Line, Held, hold, find, findEntry, absent, listed}
+use Rattle.paper.specs.Tags.{Line, Held, hold, find, absent, listed}
 use Rattle.paper.specs.Pieces.{Part, part, valueParts}
 use Rattle.paper.proofs.Laws.{build-step}
 use Rattle.paper.specs.declared.Entry.{Entry}
+
+-- the entry of a tag, found among entries alone
+unfoldable pub findEntry : ℕ → List Entry → Entry
+findEntry t [] = absent .entry
+findEntry t (e ∷ es) = cond (eqb (e .tag) t) e (findEntry t es)
 
 pub build-end : {A : Type 0} (g : ℕ → A) (c : ℕ) → build g c (c - c) ≡ []
 unfolding build

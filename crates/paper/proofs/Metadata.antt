@@ -16,7 +16,7 @@ use Rattle.paper.specs.Tags.{Line, line, table, Held, hold, find, has, b
 use Rattle.paper.specs.Keys.{keyRules}
 use Rattle.paper.specs.Judge.{View, view, verdictOf, rules, readingList, viewAt, headIn, entriesIn}
 use Rattle.paper.specs.Judge.{headRules, countRules, dirRules, viewRules, tagRules}
-use Rattle.paper.specs.Calls.{accepts, answer, textIn, textOf, metadata}
+use Rattle.paper.specs.Calls.{accepts, answer, textIn, textOf, metadataText}
 use Rattle.paper.specs.Asked.{Agree}
 use Rattle.paper.proofs.Laws.{and-eq, or-same}
 use Rattle.paper.proofs.Bounds.{noLine, fits-line}
@@ -50,11 +50,11 @@ meta-part f z p =
     let l : listed table (find 50909 (view f .held) .entry) ≡ true = meta-listed (view f .held) (rule10-kept f z) p in
     sym (held-bytes table f 50909 (entriesIn f (headIn f)) ∙ rw l)
 
-pub metadata-text : (f outside : List ℕ) → metadata f outside ≡ answer f (told outside) (λ v. [])
-unfolding metadata textOf answer textIn told
+pub metadata-text : (f outside : List ℕ) → metadataText f outside ≡ answer f (told outside) (λ v. [])
+unfolding metadataText textOf answer textIn told
 metadata-text f outside = go (accepts (verdictOf f)) refl
   where
-    go : (b : Bool) → accepts (verdictOf f) ≡ b → metadata f outside ≡ cond (accepts (verdictOf f)) (told outside (view f)) []
+    go : (b : Bool) → accepts (verdictOf f) ≡ b → metadataText f outside ≡ cond (accepts (verdictOf f)) (told outside (view f)) []
     go false e = rw e
     go true e = rw e (on (has 50909 (view f .held)) refl)
       where
@@ -65,6 +65,6 @@ metadata-text f outside = go (accepts (verdictOf f)) refl
         on false q = rw q (take-length outside)
 
 -- Demand 3, for the metadata text's bytes
-pub metadata-same : (f g : List ℕ) → length f ≡ length g → Agree f g (readingList f) → (outside : List ℕ) → metadata f outside ≡ metadata g outside
+pub metadata-same : (f g : List ℕ) → length f ≡ length g → Agree f g (readingList f) → (outside : List ℕ) → metadataText f outside ≡ metadataText g outside
 metadata-same f g n h outside =
     metadata-text f outside ∙ answer-same f g n h (told outside) (λ v. []) ∙ sym (metadata-text g outside)

@@ -18,7 +18,7 @@ use Rattle.paper.specs.Calls.{backOf, readBack, readRuns, counted}
 use Rattle.paper.specs.Block
 use Rattle.paper.specs.Block.{joined, encs, elements, valuesAt, shortValues, doubleValues, characterValues, countAt, newIndex, withIndex, moved, movedKeys}
 use Rattle.paper.specs.Block.{entryNumbers, directoryNumbers, blockDirectory, blockDoubles, blockCharacters, rule24, tooFar}
-use Rattle.paper.specs.Asked.{Bytes, valueOf, SameKey, SameKeys}
+use Rattle.paper.specs.Asked.{Bytes, elementsOf, SameKey, SameKeys}
 use Rattle.paper.proofs.Laws.{num-bound, length-build, getD-build, kept-all, all-kept, kept-cond, first-same, all-at, and-eq, and-both, or-false, breaks-kept}
 use Rattle.paper.proofs.Codec.{Below, num-drop, getD-elems, num-encs, length-encs, elems-encs, sumAt, length-moved, moved-at, joined-at, joined-in, below-append, below-joined, below-values, length-values}
 use Rattle.paper.specs.declared.KeyEntry.{KeyEntry}
@@ -282,12 +282,12 @@ value-moved-to : (r s : Runs) (e : KeyEntry) (x : ℕ)
     → (e .location ≡ 34736 → elements (r .big) 8 (r .doubles) e ≡ elements (s .big) 8 (s .doubles) (withIndex e x))
     → (e .location ≡ 34737 → elements (r .big) 1 (r .characters) e ≡ elements (s .big) 1 (s .characters) (withIndex e x))
     → (eqb (e .location) 34735 ≡ false → eqb (e .location) 34736 ≡ false → eqb (e .location) 34737 ≡ false → e .index ≡ x)
-    → valueOf r e ≡ valueOf s (withIndex e x)
-unfolding valueOf
+    → elementsOf r e ≡ elementsOf s (withIndex e x)
+unfolding elementsOf
 value-moved-to r s e x a b c d = at (eqb (e .location) 34735) (eqb (e .location) 34736) (eqb (e .location) 34737) refl refl refl
   where
     at : (u v w : Bool) → eqb (e .location) 34735 ≡ u → eqb (e .location) 34736 ≡ v → eqb (e .location) 34737 ≡ w
-        → valueOf r e ≡ valueOf s (withIndex e x)
+        → elementsOf r e ≡ elementsOf s (withIndex e x)
     at true v w p q t = rw p (a (eqb-true _ _ p))
     at false true w p q t = rw (p, q) (b (eqb-true _ _ q))
     at false false true p q t = rw (p, q, t) (c (eqb-true _ _ t))
@@ -525,7 +525,7 @@ module _ (r : Runs) (ok : Writable r) where
   unfolding newIndex
   own-number i p q s = rw (p, q, s)
 
-  value-back : (i : ℕ) → i < keyCount r → valueOf r (Old i) ≡ valueOf (written r) (withIndex (Old i) (New i))
+  value-back : (i : ℕ) → i < keyCount r → elementsOf r (Old i) ≡ elementsOf (written r) (withIndex (Old i) (New i))
   unfolding written backOf
   value-back i h =
       value-moved-to r (written r) (Old i) (New i) (λ p. sym (same-35 i h p)) (λ p. sym (same-36 i h p)) (λ p. sym (same-37 i h p)) (own-number i)
@@ -541,6 +541,6 @@ module _ (r : Runs) (ok : Writable r) where
               key = ap (λ (e : KeyEntry). e .key) new;
               location = ap (λ (e : KeyEntry). e .location) new;
               count = ap (λ (e : KeyEntry). e .count) new;
-              value = ap (valueOf r) (sym old) ∙ value-back i h ∙ ap (valueOf (written r)) (sym (key-back i h));
+              value = ap (elementsOf r) (sym old) ∙ value-back i h ∙ ap (elementsOf (written r)) (sym (key-back i h));
             };
       }

@@ -11,7 +11,7 @@ use Rattle.paper.specs.Bytes.{build}
 use Rattle.paper.specs.Outcome.{kept, ascending}
 use Rattle.paper.specs.Tests.{all, some}
 use Rattle.paper.specs.Tags.{table}
-use Rattle.paper.specs.Keys.{Known, knownKeys, kindIn, kindOf, fixedKeys, SHORT, DOUBLE, ASCII, OTHER}
+use Rattle.paper.specs.Keys.{Known, knownKeys, kindIn, kindOf, fixedKeys, shortKind, doubleKind, asciiKind, otherKind}
 use Rattle.paper.proofs.Laws.{and-eq}
 use Rattle.paper.proofs.Computed.{computed}
 
@@ -49,7 +49,7 @@ isIn k xs = some (λ x. eqb x k) xs
 
 -- the kind, in the document's words
 unfoldable pub kindListed : ℕ → ℕ
-kindListed k = cond (isIn k shortKeys) SHORT (cond (isIn k doubleKeys) DOUBLE (cond (isIn k asciiKeys) ASCII OTHER))
+kindListed k = cond (isIn k shortKeys) shortKind (cond (isIn k doubleKeys) doubleKind (cond (isIn k asciiKeys) asciiKind otherKind))
 
 abbrev keysOf : List Known → List ℕ
 keysOf xs = map (λ x. x .key) xs
@@ -74,16 +74,16 @@ found want (x ∷ xs) k h q = go (eqb (x .key) k) refl (found want xs k (and-eq 
     go true e r = rw e (sym (eqb-true _ _ (and-eq (eqb (want (x .key)) (x .kind)) _ h .0)) ∙ ap want (eqb-true (x .key) k e))
     go false e r = rw e (r (rw e at q))
 
-unfound : (xs : List Known) (k : ℕ) → isIn k (keysOf xs) ≡ false → kindIn k xs ≡ OTHER
+unfound : (xs : List Known) (k : ℕ) → isIn k (keysOf xs) ≡ false → kindIn k xs ≡ otherKind
 unfolding isIn some kindIn
 unfound [] k q = refl
 unfound (x ∷ xs) k q = go (eqb (x .key) k) refl (unfound xs k)
   where
-    go : (b : Bool) → eqb (x .key) k ≡ b → (isIn k (keysOf xs) ≡ false → kindIn k xs ≡ OTHER) → kindIn k (x ∷ xs) ≡ OTHER
+    go : (b : Bool) → eqb (x .key) k ≡ b → (isIn k (keysOf xs) ≡ false → kindIn k xs ≡ otherKind) → kindIn k (x ∷ xs) ≡ otherKind
     go true e r = let w : true ≡ false = rw e at q in absurd (false≢true (sym w))
     go false e r = rw e (r (rw e at q))
 
-unlisted : (k : ℕ) → isIn k (keysOf knownKeys) ≡ false → kindListed k ≡ OTHER
+unlisted : (k : ℕ) → isIn k (keysOf knownKeys) ≡ false → kindListed k ≡ otherKind
 unfolding kindListed shortKeys doubleKeys asciiKeys build knownKeys isIn some all
 unlisted k q = rw (none (λ j. isIn j (keysOf knownKeys)) shortKeys k refl q, none (λ j. isIn j (keysOf knownKeys)) doubleKeys k refl q, none (λ j. isIn j (keysOf knownKeys)) asciiKeys k refl q)
 

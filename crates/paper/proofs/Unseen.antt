@@ -14,7 +14,7 @@ use Rattle.paper.specs.Layout.{dirLen, entries}
 use Rattle.paper.specs.Tests.{all, some, keep}
 use Rattle.paper.specs.Tags.{Line, table, Held, hold, listed}
 use Rattle.paper.specs.Pieces.{Part, part, valueParts, fullList}
-use Rattle.paper.specs.Judge.{Head, View, headOf, headRun, headIn, countRun, countIn, dirRun, entriesIn, viewAt, view, verdictOf, readingList, past, from, countParts, dirParts, heldParts}
+use Rattle.paper.specs.Judge.{Head, View, headOf, headRun, headIn, countRun, countIn, dirRun, entriesIn, viewAt, view, verdictOf, readingList, past, reached, countParts, dirParts, heldParts}
 use Rattle.paper.specs.Keys.{keyRules}
 use Rattle.paper.specs.Judge.{headStage, countStage, dirStage, viewStage, headRules, countRules, dirRules, viewRules, tagRules, groundRules}
 use Rattle.paper.specs.Asked.{inPart, onList, Agree}
@@ -129,7 +129,7 @@ abbrev pub Past : ℕ → List ℕ → Type 0
 Past k f = T (past k (verdictOf f .number))
 
 -- what the list has from verdict j on, a verdict from k on has, where j is not above k
-opened : (k : ℕ) (f g : List ℕ) (j : ℕ) (ps : List Part) → j ≤ k → Past k f → Agree f g (from j f ps) → Agree f g ps
+opened : (k : ℕ) (f g : List ℕ) (j : ℕ) (ps : List Part) → j ≤ k → Past k f → Agree f g (reached j f ps) → Agree f g ps
 opened k f g j ps l t h = agree-from f g (past j (verdictOf f .number)) ps (past-less j k _ l t) h
 
 -- which stages the verdict has passed, where the stages before give 0

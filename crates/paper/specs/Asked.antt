@@ -13,7 +13,7 @@ use Rattle.paper.specs.Tag
 use Rattle.paper.specs.Pieces.{Part, part, Piece}
 use Rattle.paper.specs.Keys.{Runs, keyCount, keyAt}
 use Rattle.paper.specs.Judge.{view, piecesOf, verdictOf}
-use Rattle.paper.specs.Calls.{judgedOf, rowsOf, rowsLeft, citedOf, citation, textOf, metadata, backOf}
+use Rattle.paper.specs.Calls.{judgedOf, rowsOf, rowsLeft, citedOf, citation, textOf, metadataText, backOf}
 use Rattle.paper.specs.Block.{elements, blockOf, blockLeft}
 use Rattle.paper.specs.declared.Block.{Block}
 use Rattle.paper.specs.declared.KeyEntry.{KeyEntry}
@@ -39,8 +39,8 @@ abbrev pub Bytes : List ℕ → Type 0
 Bytes s = (i : ℕ) → getD s i 0 < 256
 
 -- the value of a key: the number in its entry, or its elements in the run that its location names, doubles as their 64 bits
-unfoldable pub valueOf : Runs → KeyEntry → List ℕ
-valueOf r e =
+unfoldable pub elementsOf : Runs → KeyEntry → List ℕ
+elementsOf r e =
     cond (eqb (e .location) Tag.keyDirectory) (elements (r .big) 2 (r .directory) e)
     (cond (eqb (e .location) Tag.doubles) (elements (r .big) 8 (r .doubles) e)
     (cond (eqb (e .location) Tag.characters) (elements (r .big) 1 (r .characters) e) (e .index ∷ [])))
@@ -50,7 +50,7 @@ pub record SameKey (r s : Runs) (i : ℕ) : Type 0 where
   pub key : keyAt r i .key ≡ keyAt s i .key
   pub location : keyAt r i .location ≡ keyAt s i .location
   pub count : keyAt r i .count ≡ keyAt s i .count
-  pub value : valueOf r (keyAt r i) ≡ valueOf s (keyAt s i)
+  pub value : elementsOf r (keyAt r i) ≡ elementsOf s (keyAt s i)
 
 pub record SameKeys (r s : Runs) : Type 0 where
   pub many : keyCount r ≡ keyCount s
@@ -84,7 +84,7 @@ pub record SameAnswers (f g : List ℕ) : Type 0 where
   pub cited : (k : ℕ) → citedOf f k ≡ citedOf g k
   pub citations : (k : ℕ) → citation f k ≡ citation g k
   pub texts : (m : ℕ) → textOf f m ≡ textOf g m
-  pub metadatas : (outside : List ℕ) → metadata f outside ≡ metadata g outside
+  pub metadatas : (outside : List ℕ) → metadataText f outside ≡ metadataText g outside
   pub lengths : (m : ℕ) → blockOf f m ≡ blockOf g m
   pub blocks : (out : List ℕ) → blockLeft f out ≡ blockLeft g out
 

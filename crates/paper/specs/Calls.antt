@@ -8,7 +8,7 @@ use Rattle.paper.specs.Bytes.{run, build}
 use Rattle.paper.specs.Outcome.{Outcome, breaks, _▸_, first, verdict}
 use Rattle.paper.specs.Tag
 use Rattle.paper.specs.Tags.{find, has, bytesOf}
-use Rattle.paper.specs.Keys.{Runs, keyAt, keyCount, keys, hasKey, findKey, ASCII, kindOf, keyRules}
+use Rattle.paper.specs.Keys.{Runs, keyAt, keyCount, keys, hasKey, findKey, asciiKind, kindOf, keyRules}
 use Rattle.paper.specs.Ground.{corners, georeference, zero64}
 use Rattle.paper.specs.Judge.{View, view, runsOf, surveyOf, verdictOf}
 use Rattle.paper.specs.declared.Verdict.{Verdict}
@@ -109,7 +109,7 @@ rowsLeft f lent = answer f (rowsOver lent) (λ v. lent)
 -- ---- a citation, and the metadata text
 
 unfoldable pub rule26 : ℕ → List KeyEntry → Outcome
-rule26 k ks = breaks (not (eqb (kindOf k) ASCII && hasKey k ks)) k
+rule26 k ks = breaks (not (eqb (kindOf k) asciiKind && hasKey k ks)) k
 
 abbrev pub cited : Verdict → ℕ → ℕ → Cited
 cited v s l = record { verdict = v; start = cond (accepts v) s 0; len = cond (accepts v) l 0 }
@@ -143,8 +143,8 @@ unfoldable pub textOf : List ℕ → ℕ → Text
 textOf f m = answer f (textIn m) (λ v. record { verdict = v; from = 0; start = 0; len = 0 })
 
 -- the part of the file, or of the outside text, that is handed back
-unfoldable pub metadata : List ℕ → List ℕ → List ℕ
-metadata f outside =
+unfoldable pub metadataText : List ℕ → List ℕ → List ℕ
+metadataText f outside =
     let t : Text = textOf f (length outside) in
     run (cond (eqb (t .from) 0) f outside) (t .start) (t .len)
 

@@ -147,18 +147,18 @@ rules f =
 unfoldable pub past : ℕ → ℕ → Bool
 past k v = eqb v 0 || leb k v
 
-abbrev pub from : ℕ → List ℕ → List Part → List Part
-from k f ps = cond (past k (verdictOf f .number)) ps []
+abbrev pub reached : ℕ → List ℕ → List Part → List Part
+reached k f ps = cond (past k (verdictOf f .number)) ps []
 
 -- what the verdict lets be read of the count, the directory and the values
 unfoldable pub countParts : List ℕ → List Part
-countParts f = from 5 f (part (headIn f .at) 2 ∷ [])
+countParts f = reached 5 f (part (headIn f .at) 2 ∷ [])
 
 unfoldable pub dirParts : List ℕ → List Part
-dirParts f = from 6 f (part (headIn f .at) (dirLen (countIn f (headIn f))) ∷ [])
+dirParts f = reached 6 f (part (headIn f .at) (dirLen (countIn f (headIn f))) ∷ [])
 
 unfoldable pub heldParts : List ℕ → List Part
-heldParts f = from 8 f (valueParts table (view f .held))
+heldParts f = reached 8 f (valueParts table (view f .held))
 
 unfoldable pub readingList : List ℕ → List Part
 readingList f = part 0 (min 8 (length f)) ∷ (countParts f ++ (dirParts f ++ heldParts f))

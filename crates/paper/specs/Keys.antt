@@ -53,17 +53,17 @@ rule16 ks = ascending (map (λ e. e .key) ks)
 
 -- ---- the kinds of the 45 known keys
 
-abbrev pub SHORT : ℕ
-SHORT = 0
+abbrev pub shortKind : ℕ
+shortKind = 0
 
-abbrev pub DOUBLE : ℕ
-DOUBLE = 1
+abbrev pub doubleKind : ℕ
+doubleKind = 1
 
-abbrev pub ASCII : ℕ
-ASCII = 2
+abbrev pub asciiKind : ℕ
+asciiKind = 2
 
-abbrev pub OTHER : ℕ
-OTHER = 3
+abbrev pub otherKind : ℕ
+otherKind = 3
 
 pub record Known : Type 0 where
   pub key : ℕ
@@ -73,36 +73,36 @@ abbrev pub known : ℕ → ℕ → Known
 known k n = record { key = k; kind = n }
 
 -- from a key on, so many in a row of one kind, and then the rest
-abbrev pub from : ℕ → ℕ → ℕ → List Known → List Known
-from k n zero rest = rest
-from k n (suc m) rest = known k n ∷ from (suc k) n m rest
+abbrev pub inRow : ℕ → ℕ → ℕ → List Known → List Known
+inRow k n zero rest = rest
+inRow k n (suc m) rest = known k n ∷ inRow (suc k) n m rest
 
 -- in the order of the keys; `Tables` shows that these are document 01's three lists
 unfoldable pub knownKeys : List Known
 knownKeys =
-    from 1024 SHORT 2
-    (from 1026 ASCII 1
-    (from 2048 SHORT 1
-    (from 2049 ASCII 1
-    (from 2050 SHORT 3
-    (from 2053 DOUBLE 1
-    (from 2054 SHORT 1
-    (from 2055 DOUBLE 1
-    (from 2056 SHORT 1
-    (from 2057 DOUBLE 3
-    (from 2060 SHORT 1
-    (from 2061 DOUBLE 1
-    (from 3072 SHORT 1
-    (from 3073 ASCII 1
-    (from 3074 SHORT 3
-    (from 3077 DOUBLE 19
-    (from 4096 SHORT 1
-    (from 4097 ASCII 1
-    (from 4098 SHORT 2
+    inRow 1024 shortKind 2
+    (inRow 1026 asciiKind 1
+    (inRow 2048 shortKind 1
+    (inRow 2049 asciiKind 1
+    (inRow 2050 shortKind 3
+    (inRow 2053 doubleKind 1
+    (inRow 2054 shortKind 1
+    (inRow 2055 doubleKind 1
+    (inRow 2056 shortKind 1
+    (inRow 2057 doubleKind 3
+    (inRow 2060 shortKind 1
+    (inRow 2061 doubleKind 1
+    (inRow 3072 shortKind 1
+    (inRow 3073 asciiKind 1
+    (inRow 3074 shortKind 3
+    (inRow 3077 doubleKind 19
+    (inRow 4096 shortKind 1
+    (inRow 4097 asciiKind 1
+    (inRow 4098 shortKind 2
     []))))))))))))))))))
 
 unfoldable pub kindIn : ℕ → List Known → ℕ
-kindIn k [] = OTHER
+kindIn k [] = otherKind
 kindIn k (x ∷ xs) = cond (eqb (x .key) k) (x .kind) (kindIn k xs)
 
 unfoldable pub kindOf : ℕ → ℕ
@@ -134,9 +134,9 @@ endsInBar r e = eqb (getD (r .characters) (e .index + e .count - 1) 0) bar
 -- location, count and value index are as the kind asks
 unfoldable pub rightPlace : Runs → KeyEntry → ℕ → Bool
 rightPlace r e kind =
-    cond (eqb kind SHORT) (inEntry e)
-    (cond (eqb kind DOUBLE) (eqb (e .location) Tag.doubles && (eqb (e .count) 1 && within r e))
-    (cond (eqb kind ASCII) (eqb (e .location) Tag.characters && (within r e && endsInBar r e)) (inEntry e || within r e)))
+    cond (eqb kind shortKind) (inEntry e)
+    (cond (eqb kind doubleKind) (eqb (e .location) Tag.doubles && (eqb (e .count) 1 && within r e))
+    (cond (eqb kind asciiKind) (eqb (e .location) Tag.characters && (within r e && endsInBar r e)) (inEntry e || within r e)))
 
 unfoldable pub misplaced : Runs → KeyEntry → Bool
 misplaced r e = not (rightPlace r e (kindOf (e .key)))

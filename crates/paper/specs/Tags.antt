@@ -118,11 +118,6 @@ unfoldable pub find : ℕ → List Held → Held
 find t [] = absent
 find t (h ∷ hs) = cond (eqb (h .entry .tag) t) h (find t hs)
 
--- the same over entries alone
-unfoldable pub findEntry : ℕ → List Entry → Entry
-findEntry t [] = absent .entry
-findEntry t (e ∷ es) = cond (eqb (e .tag) t) e (findEntry t es)
-
 -- for a tag other than 0
 unfoldable pub has : ℕ → List Held → Bool
 has t hs = eqb (find t hs .entry .tag) t

@@ -7,7 +7,7 @@ ghost use lib.Dec.{eqb};
 ghost use lib.ListN.{length};
 ghost use Rattle.paper.specs.Judge.{verdictOf};
 ghost use Rattle.paper.specs.Bytes.{run};
-ghost use Rattle.paper.specs.Calls.{judgedOf, rowsOf, rowsLeft, citedOf, citation, textOf, metadata, readBack};
+ghost use Rattle.paper.specs.Calls.{judgedOf, rowsOf, rowsLeft, citedOf, citation, textOf, metadataText, readBack};
 ghost use Rattle.paper.specs.Block.{blockOf, blockLeft};
 ghost use Rattle.petalbuzz.specs.Numbers.{formOf, sixOf, fourOf, lengthsOf};
 use paper::Georeference;
@@ -147,7 +147,7 @@ pub extern "C" fn petalbuzz_metadata(
     ensures from { λ _. ⌜ now (from .exit) ≡ textOf (now (file .entry)) (length (now (outside .entry))) .from ⌝ }
     ensures start { λ _. ⌜ now (start .exit) ≡ textOf (now (file .entry)) (length (now (outside .entry))) .start ⌝ }
     ensures len { λ _. ⌜ now (len .exit) ≡ textOf (now (file .entry)) (length (now (outside .entry))) .len ⌝ }
-    ensures part { λ _. ⌜ run (cond (eqb (now (from .exit)) 0) (now (file .entry)) (now (outside .entry))) (now (start .exit)) (now (len .exit)) ≡ metadata (now (file .entry)) (now (outside .entry)) ⌝ }
+    ensures part { λ _. ⌜ run (cond (eqb (now (from .exit)) 0) (now (file .entry)) (now (outside .entry))) (now (start .exit)) (now (len .exit)) ≡ metadataText (now (file .entry)) (now (outside .entry)) ⌝ }
     ensures within { λ _. ⌜ now (start .exit) + now (len .exit) ≤ cond (eqb (now (from .exit)) 0) (length (now (file .entry))) (length (now (outside .entry))) ⌝ }
 {
     let t = texts::text(file, outside.len());

@@ -13,12 +13,12 @@ use Rattle.paper.specs.Bytes.{run, num}
 use Rattle.paper.specs.Outcome.{firstBad}
 use Rattle.paper.specs.Tests.{all, some}
 use Rattle.paper.specs.Layout.{dirLen, sizeOf, typed, startOf, entryOf, entryAt, entries, rule7}
-use Rattle.paper.specs.Tags.{Line, table, inTable, Held, find, findEntry, absent, has, bytesOf, stripTags, hasSome, tiled, lacks, rule9, fitsLine, misfits, rule10}
+use Rattle.paper.specs.Tags.{Line, table, inTable, Held, find, absent, has, bytesOf, stripTags, hasSome, tiled, lacks, rule9, fitsLine, misfits, rule10}
 use Rattle.paper.specs.declared.Entry.{Entry}
 use Rattle.paper.specs.declared.Outcome.{Outcome}
 use Rattle.paper.specs.declared.Outcome.the-variants.{Kept as kept, Broken as broken}
 use Rattle.paper.proofs.Laws.{all-at, first-same, kept-all, or-false}
-use Rattle.paper.proofs.Loops.{find-entry}
+use Rattle.paper.proofs.Loops.{findEntry, find-entry}
 use Rattle.paper.proofs.Bounds.{noLine, entry-inside}
 use Rattle.layout.specs.Columns.{tags, fieldOf, column, typsOf, countsOf, startsOf, lensOf}
 use Rattle.layout.specs.Finding.{placeIn}

@@ -10,7 +10,7 @@ use Rattle.paper.specs.Bytes.{run}
 use Rattle.paper.specs.Tag
 use Rattle.paper.specs.Tags.{table, find, has}
 use Rattle.paper.specs.Judge.{view, verdictOf}
-use Rattle.paper.specs.Calls.{judgedIn, textIn, textOf, metadata}
+use Rattle.paper.specs.Calls.{judgedIn, textIn, textOf, metadataText}
 use Rattle.paper.specs.declared.Text.{Text}
 use Rattle.paper.specs.declared.Verdict.{Verdict}
 use Rattle.paper.proofs.Called.{answer-good, answer-bad}
@@ -67,14 +67,14 @@ told f e m p = subst (λ (x : Examined). Told f x m) (sym (found f e (p .0) (p .
 -- ---- the part that is cut out
 
 module _ (f outside : List ℕ) (t : Text) (is : t ≡ textOf f (length outside)) where
-  pub cut : run (cond (eqb (t .from) 0) f outside) (t .start) (t .len) ≡ metadata f outside
-  unfolding metadata
+  pub cut : run (cond (eqb (t .from) 0) f outside) (t .start) (t .len) ≡ metadataText f outside
+  unfolding metadataText
   cut = ap (λ (x : Text). run (cond (eqb (x .from) 0) f outside) (x .start) (x .len)) is
 
-  pub of-file : t .from ≡ 0 → run f (t .start) (t .len) ≡ metadata f outside
+  pub of-file : t .from ≡ 0 → run f (t .start) (t .len) ≡ metadataText f outside
   of-file h = rw (eq-eqb _ 0 h) at cut
 
-  pub of-outside : (t .from ≡ 0 → ⊥) → run outside (t .start) (t .len) ≡ metadata f outside
+  pub of-outside : (t .from ≡ 0 → ⊥) → run outside (t .start) (t .len) ≡ metadataText f outside
   of-outside n = rw (ne-eqb _ 0 n) at cut
 
 module _ (f outside : List ℕ) (t : Text) (fits : t .start + t .len ≤ cond (eqb (t .from) 0) (length f) (length outside)) where

@@ -7,7 +7,7 @@ ghost use lib.Dec.{eqb};
 ghost use lib.ListN.{length};
 ghost use Rattle.paper.specs.Bytes.{build};
 ghost use Rattle.paper.specs.Keys.{keyAt, findKey};
-ghost use Rattle.paper.specs.Calls.{citedOf, citation, textOf, metadata};
+ghost use Rattle.paper.specs.Calls.{citedOf, citation, textOf, metadataText};
 ghost use Rattle.keys.specs.Pass.{runs};
 ghost use Rattle.judge.specs.Examining.{examinedOf};
 use judge::Examined;
@@ -139,7 +139,7 @@ pub fn metadata<'a>(
     verdict: &mut u32,
     place: &mut u32,
 ) -> &'a [u8]
-    ensures part { λ r. ⌜ now r ≡ metadata (now (file .entry)) (now (outside .entry)) ⌝ }
+    ensures part { λ r. ⌜ now r ≡ metadataText (now (file .entry)) (now (outside .entry)) ⌝ }
     ensures verdict { λ _. ⌜ now (verdict .exit) ≡ textOf (now (file .entry)) (length (now (outside .entry))) .verdict .number ⌝ }
     ensures place { λ _. ⌜ now (place .exit) ≡ textOf (now (file .entry)) (length (now (outside .entry))) .verdict .place ⌝ }
 {
