@@ -91,7 +91,7 @@ absent-unlisted tb = and-false (inTable tb 0)
 
 -- ---- and so the value of a tag of the table, as it is found
 
-found-all : (tb : List Line) (Q : Entry → Type 0) (t : ℕ) (es : List Entry) → ((i : ℕ) → i < length es → listed tb (getD es i (absent .entry)) ≡ true → Q (getD es i (absent .entry)))
+pub found-all : (tb : List Line) (Q : Entry → Type 0) (t : ℕ) (es : List Entry) → ((i : ℕ) → i < length es → listed tb (getD es i (absent .entry)) ≡ true → Q (getD es i (absent .entry)))
     → listed tb (findEntry t es) ≡ true → Q (findEntry t es)
 unfolding findEntry
 found-all tb Q t [] h p = absurd (true≢false (sym p ∙ absent-unlisted tb))

@@ -55,7 +55,7 @@ found-kept bad place k (e ∷ es) nz h p =
     go true q x r = rw q x
     go false q x r = rw q (r (rw q at p))
 
-rule17-kept : (f : List ℕ) → verdictOf f .number ≡ 0 → rule17 (runsOf (view f)) (keys (runsOf (view f))) ≡ kept
+pub rule17-kept : (f : List ℕ) → verdictOf f .number ≡ 0 → rule17 (runsOf (view f)) (keys (runsOf (view f))) ≡ kept
 unfolding rules headRules countRules dirRules viewRules tagRules keyRules
 rule17-kept f z = all-kept f z 17
 

@@ -1,5 +1,6 @@
 -- The demands, as theorems about the definitions of `specs/`. A file is a list of bytes. This page states; the proofs are in the files that it
--- names. `Asked` (in specs/) has the words used here: AllKept, FirstBroken, Agree, SameAnswers, Repainted, SameKeys. Assumes nothing.
+-- names. The words are in specs/: `Asked` (AllKept, FirstBroken, Agree, SameAnswers, Repainted, SameKeys), `Lent` for demand 1, `Places` for the first
+-- place, `Shown` for rows, georeference, corners and pieces, `Laid` for the key block. Assumes nothing.
 use Prim.Native.Nat.{ℕ, _+_, _<_}
 use mathlib.Core.Path.{_≡_, refl, sym, ap, _∙_}
 use mathlib.Core.Bool.{true, false}
@@ -7,13 +8,23 @@ use mathlib.Core.List.{List, [], _∷_, map}
 use lib.ListN.{length, getD}
 use Rattle.paper.specs.Outcome.{Rule, verdict}
 use Rattle.paper.specs.Tags.{stripTags, tileTags}
-use Rattle.paper.specs.Keys.{keyCount, keyRules}
+use Rattle.paper.specs.Keys.{Runs, keyCount, keyRules}
 use Rattle.paper.specs.Judge.{headIn, entriesIn, view, runsOf, piecesOf, verdictOf, rules, readingList}
 use Rattle.paper.specs.Judge.{headRules, countRules, dirRules, viewRules, tagRules, groundRules}
-use Rattle.paper.specs.Calls.{readRuns}
+use Rattle.paper.specs.Calls.{judgedOf, readRuns}
 use Rattle.paper.specs.Block.{blockOf, blockLeft}
 use Rattle.paper.specs.Asked.{AllKept, FirstBroken, Agree, onList, SameAnswers, noPiece, Within, InPiece, Repainted, Bytes, SameKeys, lentRuns}
+use Rattle.paper.specs.Lent.{Guarded, Reads}
+use Rattle.paper.specs.Places.{Places}
+use Rattle.paper.specs.Shown.{Shows}
+use Rattle.paper.specs.Laid.{LaidOut, BlockRefusals}
+use Rattle.paper.proofs.Lent.{guarded, reads}
 use Rattle.paper.proofs.First.{first-kept, first-broken, broken-first, verdict-rules, all-kept}
+use Rattle.paper.proofs.Called.{judged-verdict}
+use Rattle.paper.proofs.Places.{places}
+use Rattle.paper.proofs.Shown.{shows}
+use Rattle.paper.proofs.Laid.{laid-out, block-refusals}
+use Rattle.paper.proofs.Settled.{laid-once}
 use Rattle.paper.proofs.Unseen.{verdict-same, judged-same, rows-same, rowsLeft-same, cited-same, text-same, block-same, blockLeft-same}
 use Rattle.paper.proofs.Citation.{citation-same}
 use Rattle.paper.proofs.Metadata.{metadata-same}
@@ -21,6 +32,19 @@ use Rattle.paper.proofs.Picture.{pieces-within, pieces-unread, repainte
 use Rattle.paper.proofs.Kept.{carries, verdictBefore, verdict-kept}
 use Rattle.paper.proofs.Trip.{read-accepted, read-same}
 use Rattle.paper.specs.declared.Verdict.{Verdict}
+use Rattle.paper.specs.declared.Block.{Block}
+
+-- DEMAND 1. Every call takes any bytes, whatever is lent or asked: the definitions are total, and no contract of a public call asks anything. A call on
+-- a file gives the number and the place of the file's first broken rule, one of 1 to 22 and 27; where none is broken, 0 with place 0 or a number
+-- of its own: 23 for rows, 26 for a citation, 24 before 25 for the key block (`numbers`). 23 and 25 name the room that is needed, 26 the key asked
+-- (`named`). A refusal has nothing beside its verdict: other numbers are 0, doubles +0, parts empty, and every lent row and byte is as it was
+-- (`refusals`). An accepting call writes K rows, or the block's bytes, in front; what is behind keeps its content (`writes`).
+pub lent : (f : List ℕ) → Guarded f
+lent f = guarded f
+
+-- The call that reads three runs back, without a file, gives 0 or 15 to 19, and with any number but 0 no K.
+pub read-back : (r : Runs) → Reads r
+read-back r = reads r
 
 module _ (f : List ℕ) where
   -- The rules stand in the order of their numbers, 1 to 22, with 27 directly after 8.
@@ -43,6 +67,20 @@ module _ (f : List ℕ) where
   pub refused-only : (k p : ℕ) → verdictOf f ≡ verdict k p → (k ≡ 0 → ⊥) → FirstBroken (rules f) k p
   refused-only k p h n = broken-first (rules f) k p (sym (verdict-rules f) ∙ h) n
 
+  -- That place is the rule's first: of its first fault or of the lowest, as document 01 words it for each rule, and 0 where it gives none.
+  pub placed : Places f
+  placed = places f
+
+  -- The whole judgement gives this verdict.
+  pub judged : judgedOf f .verdict ≡ verdictOf f
+  judged = judged-verdict f
+
+-- What an accepted file shows is what the document defines, over the bytes as they stand in the file. `keys`: K and the entries. `rows`: key, kind, and
+-- the part of the file that holds the key's value; later rows keep their content. `ground`: the georeference from tiepoint and scale or from the
+-- matrix, the two corners written out, all finite. `pieces`: as many as the size asks for, one or more, and where each lies.
+pub shown : (f : List ℕ) → verdictOf f .number ≡ 0 → Shows f
+shown f accepts = shows f accepts
+
 -- The written key block reads back: where the call accepts, the three runs in the lent output, cut by the three lengths that it gave, keep rules 15
 -- to 19, give the same K, and hold the same keys in the same order with the same values, doubles by their 64 bits.
 module _ (f out : List ℕ) (bytes : Bytes f) (accepts : blockOf f (length out) .verdict .number ≡ 0) where
@@ -51,6 +89,20 @@ module _ (f out : List ℕ) (bytes : Bytes f) (accepts : blockOf f (length out) 
 
   pub block-keys : SameKeys (runsOf (view f)) (lentRuns (blockLeft f out) (blockOf f (length out)))
   block-keys = read-same f out bytes accepts
+
+  -- It is laid out as document 01 says: header, entries and values in key order without gaps or sharing, each start index the base plus the counts
+  -- before it, the three lengths in bytes as sums, little-endian, and the bytes after the block stay.
+  pub block-laid : LaidOut (runsOf (view f)) (blockOf f (length out)) out (blockLeft f out)
+  block-laid = laid-out f out bytes accepts
+
+-- That layout leaves no byte of the output open.
+pub layout-settles : (r : Runs) (b c : Block) (out x y : List ℕ) → LaidOut r b out x → LaidOut r c out y → x ≡ y
+layout-settles = laid-once
+
+-- Of an accepted file the block is refused by 24 exactly at the first key whose value would start past 65,535, and else by 25 exactly where the
+-- lent bytes are fewer than it needs, with those as place.
+pub block-refused : (f : List ℕ) (m : ℕ) → verdictOf f .number ≡ 0 → BlockRefusals (runsOf (view f)) m (blockOf f m .verdict)
+block-refused = block-refusals
 
 -- DEMAND 3. Two files of equal length that agree on every byte of the first file's reading list get the same answers from every call, whatever is
 -- lent or asked: verdict, place, K, georeference, corners, rows, citation (place and bytes), metadata text, key block and its lengths.

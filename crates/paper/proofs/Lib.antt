@@ -2,6 +2,13 @@
 pub mod Demands
 -- what it rests on
 pub mod First
+pub mod Lent
+pub mod Places
+pub mod Values
+pub mod RowValues
+pub mod OnGround
+pub mod PieceCount
+pub mod Shown
 pub mod Called
 pub mod Unseen
 pub mod Kept
@@ -11,6 +18,8 @@ pub mod Picture
 pub mod Codec
 pub mod RoundTrip
 pub mod Trip
+pub mod Laid
+pub mod Settled
 -- examples and tables, computed
 pub mod Computed
 pub mod Marked

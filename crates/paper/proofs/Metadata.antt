@@ -29,7 +29,7 @@ use Rattle.paper.specs.declared.Entry.{Entry}
 unfoldable pub told : List ℕ → View → List ℕ
 told outside w = cond (has 50909 (w .held)) (bytesOf 50909 (w .held)) outside
 
-rule10-kept : (f : List ℕ) → verdictOf f .number ≡ 0 → rule10 table (view f .held) ≡ kept
+pub rule10-kept : (f : List ℕ) → verdictOf f .number ≡ 0 → rule10 table (view f .held) ≡ kept
 unfolding rules headRules countRules dirRules viewRules tagRules keyRules view viewAt
 rule10-kept f z = all-kept f z 10
 

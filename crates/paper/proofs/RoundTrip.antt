@@ -73,7 +73,7 @@ entries-at (e ∷ es) v (suc i) j h l =
     ∙ four (e .key) (e .location) (e .count) (e .index) (joined entryNumbers es ++ v) (4 * i + j)
     ∙ entries-at es v i j (le-of-suc-le-suc h) l
 
-length-entries : (es : List KeyEntry) → length (joined entryNumbers es) ≡ 4 * length es
+pub length-entries : (es : List KeyEntry) → length (joined entryNumbers es) ≡ 4 * length es
 unfolding joined entryNumbers
 length-entries [] = refl
 length-entries (e ∷ es) = omega (arith, length-entries es)
@@ -248,7 +248,7 @@ pub record Writable (r : Runs) : Type 0 where
 unfoldable pub written : Runs → Runs
 written r = backOf (blockDirectory r) (blockDoubles r) (blockCharacters r)
 
-length-keys : (r : Runs) → length (keys r) ≡ keyCount r
+pub length-keys : (r : Runs) → length (keys r) ≡ keyCount r
 unfolding keys
 length-keys r = length-build (keyAt r) 0 (keyCount r)
 
@@ -293,38 +293,42 @@ value-moved-to r s e x a b c d = at (eqb (e .location) 34735) (eqb (e .location)
     at false false true p q t = rw (p, q, t) (c (eqb-true _ _ t))
     at false false false p q t = rw (p, q, t) (ap (λ (n : ℕ). n ∷ []) (d p q t))
 
+-- where the values of entry i now start in its array; and the entries as they are written
+abbrev pub newAt : Runs → ℕ → ℕ
+newAt r i =
+    newIndex (4 + 4 * keyCount r + sumAt 34735 (keys r) i) (0 + sumAt 34736 (keys r) i) (0 + sumAt 34737 (keys r) i) (getD (keys r) i noKey)
+
+in-keys : (r : Runs) {i : ℕ} → i < keyCount r → i < length (keys r)
+in-keys r {i} h = omega (arith, length-keys r)
+
+pub moved-key : (r : Runs) (i : ℕ) → i < keyCount r → getD (movedKeys r) i noKey ≡ withIndex (getD (keys r) i noKey) (newAt r i)
+unfolding movedKeys
+moved-key r i h = moved-at (4 + 4 * keyCount r) 0 0 (keys r) i (in-keys r h)
+
+pub length-movedKeys : (r : Runs) → length (movedKeys r) ≡ keyCount r
+unfolding movedKeys
+length-movedKeys r = length-moved _ _ _ (keys r) ∙ length-keys r
+
 module _ (r : Runs) (ok : Writable r) where
-  -- entry i, where its values now start in each array, and the entry as it is written
+  -- entry i, and its new index
   abbrev Old : ℕ → KeyEntry
   Old i = getD (keys r) i noKey
 
   abbrev New : ℕ → ℕ
-  New i =
-      newIndex (4 + 4 * keyCount r + sumAt 34735 (keys r) i) (0 + sumAt 34736 (keys r) i) (0 + sumAt 34737 (keys r) i) (Old i)
-
-  in-keys : {i : ℕ} → i < keyCount r → i < length (keys r)
-  in-keys {i} h = omega (arith, length-keys r)
-
-  pub moved-key : (i : ℕ) → i < keyCount r → getD (movedKeys r) i noKey ≡ withIndex (Old i) (New i)
-  unfolding movedKeys
-  moved-key i h = moved-at (4 + 4 * keyCount r) 0 0 (keys r) i (in-keys h)
-
-  length-movedKeys : length (movedKeys r) ≡ keyCount r
-  unfolding movedKeys
-  length-movedKeys = length-moved _ _ _ (keys r) ∙ length-keys r
+  New i = newAt r i
 
   new-bound : (i : ℕ) → i < keyCount r → New i < 65536
   unfolding rule24 entryNumbers
   new-bound i h =
       index-bound _ _ _ (Old i) (below-key r i (ok .bytes35) h 3)
-      (subst (λ (e : KeyEntry). tooFar e ≡ false) (moved-key i h) (kept-all tooFar _ (movedKeys r) noKey (ok .kept24) i (omega (arith, length-movedKeys))))
+      (subst (λ (e : KeyEntry). tooFar e ≡ false) (moved-key r i h) (kept-all tooFar _ (movedKeys r) noKey (ok .kept24) i (omega (arith, length-movedKeys r))))
 
   below-moved : (i : ℕ) → i < length (movedKeys r) → Below 65536 (entryNumbers (getD (movedKeys r) i noKey))
   unfolding entryNumbers
   below-moved i l =
-      let h : i < keyCount r = omega (arith, length-movedKeys) in
+      let h : i < keyCount r = omega (arith, length-movedKeys r) in
       let b = below-key r i (ok .bytes35) h in
-      subst (λ (e : KeyEntry). Below 65536 (entryNumbers e)) (sym (moved-key i h))
+      subst (λ (e : KeyEntry). Below 65536 (entryNumbers e)) (sym (moved-key r i h))
       (below-four 65536 _ _ _ _ (b 0) (b 1) (b 2) (new-bound i h))
 
   below-directory : Below 65536 (directoryNumbers r)
@@ -351,7 +355,7 @@ module _ (r : Runs) (ok : Writable r) where
   Front = 1 ∷ 1 ∷ 0 ∷ keyCount r ∷ joined entryNumbers (movedKeys r)
 
   length-front : length Front ≡ 4 + 4 * keyCount r
-  length-front = omega (arith, length-entries (movedKeys r), length-movedKeys)
+  length-front = omega (arith, length-entries (movedKeys r), length-movedKeys r)
 
   new-35 : (i : ℕ) → Old i .location ≡ 34735 → New i ≡ length Front + sumAt 34735 (keys r) i
   unfolding newIndex
@@ -370,25 +374,25 @@ module _ (r : Runs) (ok : Writable r) where
   unfolding blockDirectory directoryNumbers shortValues
   same-35 i h p =
       ap (λ (n : ℕ). elements false 2 (blockDirectory r) (withIndex (Old i) n)) (new-35 i p)
-      ∙ values-same (r .big) 34735 2 (r .directory) (keys r) Front i (in-keys h) p below-directory
+      ∙ values-same (r .big) 34735 2 (r .directory) (keys r) Front i (in-keys r h) p below-directory
 
   pub same-36 : (i : ℕ) → i < keyCount r → Old i .location ≡ 34736
       → elements false 8 (blockDoubles r) (withIndex (Old i) (New i)) ≡ elements (r .big) 8 (r .doubles) (Old i)
   unfolding blockDoubles doubleValues
   same-36 i h p =
       ap (λ (n : ℕ). elements false 8 (blockDoubles r) (withIndex (Old i) n)) (new-36 i p)
-      ∙ values-same (r .big) 34736 8 (r .doubles) (keys r) [] i (in-keys h) p below-doubles
+      ∙ values-same (r .big) 34736 8 (r .doubles) (keys r) [] i (in-keys r h) p below-doubles
 
   pub same-37 : (i : ℕ) → i < keyCount r → Old i .location ≡ 34737
       → elements false 1 (blockCharacters r) (withIndex (Old i) (New i)) ≡ elements (r .big) 1 (r .characters) (Old i)
   unfolding blockCharacters characterValues
   same-37 i h p =
       ap (λ (n : ℕ). elements false 1 (blockCharacters r) (withIndex (Old i) n)) (new-37 i p)
-      ∙ values-same (r .big) 34737 1 (r .characters) (keys r) [] i (in-keys h) p below-characters
+      ∙ values-same (r .big) 34737 1 (r .characters) (keys r) [] i (in-keys r h) p below-characters
 
   -- ---- what is read back
 
-  short-back : (i : ℕ) → short (written r) i ≡ getD (directoryNumbers r) i 0
+  pub short-back : (i : ℕ) → short (written r) i ≡ getD (directoryNumbers r) i 0
   unfolding short written backOf blockDirectory
   short-back i = num-encs 2 (directoryNumbers r) i below-directory
 
@@ -396,8 +400,16 @@ module _ (r : Runs) (ok : Writable r) where
   unfolding keyCount directoryNumbers
   count-back = short-back 3
 
+  -- number j of entry i
+  pub entry-back : (i j : ℕ) → i < keyCount r → j < 4 → short (written r) (4 + (4 * i + j)) ≡ getD (entryNumbers (getD (movedKeys r) i noKey)) j 0
+  unfolding directoryNumbers
+  entry-back i j h l =
+      short-back (4 + (4 * i + j))
+      ∙ four 1 1 0 (keyCount r) (joined entryNumbers (movedKeys r) ++ shortValues r) (4 * i + j)
+      ∙ entries-at (movedKeys r) (shortValues r) i j (omega (arith, length-movedKeys r)) l
+
   keyAt-back : (i : ℕ) → i < keyCount r → keyAt (written r) i ≡ getD (movedKeys r) i noKey
-  unfolding keyAt directoryNumbers entryNumbers
+  unfolding keyAt entryNumbers
   keyAt-back i h =
       λ d. record {
         key = f 0 (4 + 4 * i) (lit< tt) (omega arith) d;
@@ -407,16 +419,12 @@ module _ (r : Runs) (ok : Writable r) where
       }
     where
       f : (j m : ℕ) → j < 4 → m ≡ 4 + (4 * i + j) → short (written r) m ≡ getD (entryNumbers (getD (movedKeys r) i noKey)) j 0
-      f j m l q =
-          short-back m
-          ∙ ap (λ (k : ℕ). getD (directoryNumbers r) k 0) q
-          ∙ four 1 1 0 (keyCount r) (joined entryNumbers (movedKeys r) ++ shortValues r) (4 * i + j)
-          ∙ entries-at (movedKeys r) (shortValues r) i j (omega (arith, length-movedKeys)) l
+      f j m l q = ap (short (written r)) q ∙ entry-back i j h l
 
   -- the keys that are read back are those written, in order
   pub keys-back : keys (written r) ≡ movedKeys r
   keys-back =
-      ext-getD noKey (keys (written r)) (movedKeys r) (length-keys (written r) ∙ count-back ∙ sym length-movedKeys)
+      ext-getD noKey (keys (written r)) (movedKeys r) (length-keys (written r) ∙ count-back ∙ sym (length-movedKeys r))
       (λ i l. let h : i < keyCount r = omega (arith, length-keys (written r), count-back) in
       key-at (written r) i (omega (arith, count-back)) ∙ keyAt-back i h)
 
@@ -452,21 +460,21 @@ module _ (r : Runs) (ok : Writable r) where
   unfolding room written backOf blockDirectory directoryNumbers shortValues
   room-35 i h p =
       let g : New i + Old i .count ≤ length (blockDirectory r) / 2 =
-      omega (arith, new-35 i p, values-in (r .big) 34735 2 (r .directory) (keys r) Front i (in-keys h) p, length-encs 2 (directoryNumbers r)) in
+      omega (arith, new-35 i p, values-in (r .big) 34735 2 (r .directory) (keys r) Front i (in-keys r h) p, length-encs 2 (directoryNumbers r)) in
       subst (λ (l : ℕ). New i + Old i .count ≤ room (written r) l) (sym p) g
 
   room-36 : (i : ℕ) → i < keyCount r → Old i .location ≡ 34736 → New i + Old i .count ≤ room (written r) (Old i .location)
   unfolding room written backOf blockDoubles doubleValues
   room-36 i h p =
       let g : New i + Old i .count ≤ length (blockDoubles r) / 8 =
-      omega (arith, new-36 i p, values-in (r .big) 34736 8 (r .doubles) (keys r) [] i (in-keys h) p, length-encs 8 (doubleValues r)) in
+      omega (arith, new-36 i p, values-in (r .big) 34736 8 (r .doubles) (keys r) [] i (in-keys r h) p, length-encs 8 (doubleValues r)) in
       subst (λ (l : ℕ). New i + Old i .count ≤ room (written r) l) (sym p) g
 
   room-37 : (i : ℕ) → i < keyCount r → Old i .location ≡ 34737 → New i + Old i .count ≤ room (written r) (Old i .location)
   unfolding room written backOf blockCharacters characterValues
   room-37 i h p =
       let g : New i + Old i .count ≤ length (blockCharacters r) =
-      omega (arith, new-37 i p, values-in (r .big) 34737 1 (r .characters) (keys r) [] i (in-keys h) p, length-encs 1 (characterValues r)) in
+      omega (arith, new-37 i p, values-in (r .big) 34737 1 (r .characters) (keys r) [] i (in-keys r h) p, length-encs 1 (characterValues r)) in
       subst (λ (l : ℕ). New i + Old i .count ≤ room (written r) l) (sym p) g
 
   room-back : (i : ℕ) → i < keyCount r → 1 ≤ Old i .count → Old i .index + Old i .count ≤ room r (Old i .location)
@@ -499,12 +507,12 @@ module _ (r : Runs) (ok : Writable r) where
     where
       at : (i : ℕ) → i < length (movedKeys r) → misplaced (written r) (getD (movedKeys r) i noKey) ≡ false
       at i l =
-          let h : i < keyCount r = omega (arith, length-movedKeys) in
+          let h : i < keyCount r = omega (arith, length-movedKeys r) in
           let a : rightPlace r (Old i) (kindOf (Old i .key)) ≡ true =
-          not-false _ (kept-all (misplaced r) _ (keys r) noKey (ok .kept17) i (in-keys h)) in
+          not-false _ (kept-all (misplaced r) _ (keys r) noKey (ok .kept17) i (in-keys r h)) in
           let b : rightPlace (written r) (withIndex (Old i) (New i)) (kindOf (Old i .key)) ≡ true =
           right-moved r (written r) (Old i) (New i) (kindOf (Old i .key)) (within-back i h) (last-back i h) a in
-          subst (λ (e : KeyEntry). misplaced (written r) e ≡ false) (sym (moved-key i h)) (ap not b)
+          subst (λ (e : KeyEntry). misplaced (written r) e ≡ false) (sym (moved-key r i h)) (ap not b)
 
   verdict-back : first (keyRules (written r)) ≡ verdict 0 0
   unfolding keyRules first
@@ -518,14 +526,14 @@ module _ (r : Runs) (ok : Writable r) where
   -- ---- and the same keys in the same order, with the same values
 
   key-back : (i : ℕ) → i < keyCount r → keyAt (written r) i ≡ withIndex (Old i) (New i)
-  key-back i h = keyAt-back i h ∙ moved-key i h
+  key-back i h = keyAt-back i h ∙ moved-key r i h
 
   -- in none of the three arrays: the entry's own number
   own-number : (i : ℕ) → eqb (Old i .location) 34735 ≡ false → eqb (Old i .location) 34736 ≡ false → eqb (Old i .location) 34737 ≡ false → Old i .index ≡ New i
   unfolding newIndex
   own-number i p q s = rw (p, q, s)
 
-  value-back : (i : ℕ) → i < keyCount r → elementsOf r (Old i) ≡ elementsOf (written r) (withIndex (Old i) (New i))
+  pub value-back : (i : ℕ) → i < keyCount r → elementsOf r (Old i) ≡ elementsOf (written r) (withIndex (Old i) (New i))
   unfolding written backOf
   value-back i h =
       value-moved-to r (written r) (Old i) (New i) (λ p. sym (same-35 i h p)) (λ p. sym (same-36 i h p)) (λ p. sym (same-37 i h p)) (own-number i)

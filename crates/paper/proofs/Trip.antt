@@ -70,7 +70,7 @@ writable f b z k =
 
 -- ---- the call
 
-accepted-block : (f : List ℕ) (m : ℕ) → blockOf f m .verdict .number ≡ 0
+pub accepted-block : (f : List ℕ) (m : ℕ) → blockOf f m .verdict .number ≡ 0
     → (verdictOf f .number ≡ 0) × (blockVerdict m (runsOf (view f)) .number ≡ 0)
 unfolding blockOf answer blockIn
 accepted-block f m z = go (accepts (verdictOf f)) refl
@@ -84,7 +84,7 @@ unfolding blockVerdict all
 rule24-kept m r z = kept-first (24 ▸ rule24 r ∷ 25 ▸ rule25 r m ∷ []) refl z 0
 
 -- what an accepting call answers, and leaves
-block-is : (f : List ℕ) (m : ℕ) → blockOf f m .verdict .number ≡ 0
+pub block-is : (f : List ℕ) (m : ℕ) → blockOf f m .verdict .number ≡ 0
     → blockOf f m
     ≡ record {
       verdict = blockVerdict m (runsOf (view f));
@@ -97,7 +97,7 @@ block-is f m z =
     let a = accepted-block f m z in
     rw (eq-eqb (verdictOf f .number) 0 (a .0), eq-eqb (blockVerdict m (runsOf (view f)) .number) 0 (a .1))
 
-left-is : (f out : List ℕ) → blockOf f (length out) .verdict .number ≡ 0
+pub left-is : (f out : List ℕ) → blockOf f (length out) .verdict .number ≡ 0
     → blockLeft f out ≡ blockBytes (runsOf (view f)) ++ drop (length (blockBytes (runsOf (view f)))) out
 unfolding blockLeft answer blockOver
 left-is f out z =
@@ -151,7 +151,7 @@ lent-written f out z =
 
 -- Write the block of a file into lent bytes; read the three parts back by the lengths that the call gave.
 module _ (f out : List ℕ) (bytes : Bytes f) (z : blockOf f (length out) .verdict .number ≡ 0) where
-  can-write : Writable (runsOf (view f))
+  pub can-write : Writable (runsOf (view f))
   can-write =
       let a = accepted-block f (length out) z in
       writable f bytes (a .0) (rule24-kept (length out) (runsOf (view f)) (a .1))

@@ -9,7 +9,7 @@ use lib.Ieee as Ieee
 use lib.Ieee.{Float, nan, inf, fin, binary64}
 use lib.ListN.{length}
 use Rattle.paper.specs.Bytes.{num, elems}
-use Rattle.paper.specs.Outcome.{Outcome, breaks, firstOf}
+use Rattle.paper.specs.Outcome.{Outcome, breaks, Fault, fault, firstThere}
 use Rattle.paper.specs.Tests.{all}
 use Rattle.paper.specs.Tag
 use Rattle.paper.specs.declared.Georeference.{Georeference}
@@ -88,13 +88,16 @@ spans big m =
     && (Ieee.eq (double big m 15) one64
     && not (Ieee.eq (double big m 0 ⊠ double big m 5) (double big m 1 ⊠ double big m 4)))))
 
+-- lowest first
+abbrev pub groundFaults : Survey → List Fault
+groundFaults s =
+    fault (not (none (s .scale)) && not (allFinite (s .big) (s .scale) && scales (s .big) (s .scale))) Tag.scale
+    ∷ fault (not (allFinite (s .big) (s .tiepoint))) Tag.tiepoint
+    ∷ fault (not (none (s .matrix)) && not (allFinite (s .big) (s .matrix) && spans (s .big) (s .matrix))) Tag.matrix
+    ∷ []
+
 unfoldable pub rule21 : Survey → Outcome
-rule21 s =
-    firstOf
-    (breaks (not (none (s .scale)) && not (allFinite (s .big) (s .scale) && scales (s .big) (s .scale))) Tag.scale
-    ∷ breaks (not (allFinite (s .big) (s .tiepoint))) Tag.tiepoint
-    ∷ breaks (not (none (s .matrix)) && not (allFinite (s .big) (s .matrix) && spans (s .big) (s .matrix))) Tag.matrix
-    ∷ [])
+rule21 s = firstThere (groundFaults s)
 
 -- with rule 20 kept, no matrix means scale and tiepoint; doubles counted from 0
 unfoldable pub georeference : Survey → Georeference

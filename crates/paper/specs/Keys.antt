@@ -6,7 +6,7 @@ use mathlib.Core.List.{List, [], _∷_, map}
 use lib.Dec.{ltb, leb, eqb}
 use lib.ListN.{length, getD}
 use Rattle.paper.specs.Bytes.{num, build}
-use Rattle.paper.specs.Outcome.{Outcome, breaks, firstOf, firstBad, ascending, Rule, _▸_}
+use Rattle.paper.specs.Outcome.{Outcome, breaks, Fault, fault, firstThere, firstBad, ascending, Rule, _▸_}
 use Rattle.paper.specs.Tests.{Range, between, just, allows}
 use Rattle.paper.specs.Tag
 use Rattle.paper.specs.Key
@@ -163,14 +163,16 @@ abbrev pub keyValue : ℕ → List KeyEntry → ℕ
 keyValue k ks = findKey k ks .index
 
 -- lowest first
+abbrev pub absences : List KeyEntry → List Fault
+absences ks =
+    fault (not (hasKey Key.modelType ks)) Key.modelType
+    ∷ fault (not (hasKey Key.rasterType ks)) Key.rasterType
+    ∷ fault (eqb (keyValue Key.modelType ks) 2 && not (hasKey Key.geodeticCRS ks)) Key.geodeticCRS
+    ∷ fault (eqb (keyValue Key.modelType ks) 1 && not (hasKey Key.projectedCRS ks)) Key.projectedCRS
+    ∷ []
+
 unfoldable pub rule18 : List KeyEntry → Outcome
-rule18 ks =
-    firstOf
-    (breaks (not (hasKey Key.modelType ks)) Key.modelType
-    ∷ breaks (not (hasKey Key.rasterType ks)) Key.rasterType
-    ∷ breaks (eqb (keyValue Key.modelType ks) 2 && not (hasKey Key.geodeticCRS ks)) Key.geodeticCRS
-    ∷ breaks (eqb (keyValue Key.modelType ks) 1 && not (hasKey Key.projectedCRS ks)) Key.projectedCRS
-    ∷ [])
+rule18 ks = firstThere (absences ks)
 
 -- a key with the values it may have
 pub record Fixed : Type 0 where

@@ -12,3 +12,7 @@ pub mod Judge
 pub mod Calls
 pub mod Block
 pub mod Asked
+pub mod Lent
+pub mod Places
+pub mod Shown
+pub mod Laid

@@ -1,7 +1,7 @@
 -- A rule is kept, or broken at a place. A judgement is the first broken rule of a list, with its number. Assumes nothing.
 use Prim.Native.Nat.{ℕ}
 use mathlib.Core.Bool.{Bool, true, false, cond}
-use mathlib.Core.List.{List, [], _∷_}
+use mathlib.Core.List.{List, [], _∷_, map}
 use lib.Dec.{ltb, eqb}
 use Rattle.paper.specs.declared.Verdict.{Verdict}
 pub use Rattle.paper.specs.declared.Outcome.{Outcome}
@@ -19,6 +19,18 @@ unfoldable pub firstOf : List Outcome → Outcome
 firstOf [] = kept
 firstOf (kept ∷ os) = firstOf os
 firstOf (broken p ∷ os) = broken p
+
+-- a fault that a rule looks for: whether it is there, and its place
+pub record Fault : Type 0 where
+  pub there : Bool
+  pub place : ℕ
+
+abbrev pub fault : Bool → ℕ → Fault
+fault b p = record { there = b; place = p }
+
+-- broken at the place of the first that is there
+abbrev pub firstThere : List Fault → Outcome
+firstThere xs = firstOf (map (λ x. breaks (x .there) (x .place)) xs)
 
 -- broken at the place of the first element that is bad
 unfoldable pub firstBad : {A : Type 0} → (A → Bool) → (A → ℕ) → List A → Outcome

@@ -6,7 +6,7 @@ use mathlib.Core.Bool.{Bool, true, false, cond, not, _&&_, _||_}
 use mathlib.Core.List.{List, [], _∷_}
 use lib.Dec.{ltb, leb, eqb}
 use Rattle.paper.specs.Bytes.{run, num, elems}
-use Rattle.paper.specs.Outcome.{Outcome, breaks, firstOf, firstBad}
+use Rattle.paper.specs.Outcome.{Outcome, breaks, Fault, fault, firstThere, firstBad}
 use Rattle.paper.specs.Tests.{all, some, between, just, allows}
 use Rattle.paper.specs.Layout.{sizeOf, typed}
 use Rattle.paper.specs.Tag
@@ -203,15 +203,17 @@ disallowed big hs l = has (l .tag) hs && not (all (l .values) (valuesOf big (l .
 unfoldable pub rule11 : List Line → Bool → List Held → Outcome
 rule11 tb big hs = firstBad (disallowed big hs) (λ l. l .tag) tb
 
--- `bits` is the first value of 258; with the first line kept, every value
-unfoldable pub rule12 : Bool → List Held → Outcome
-rule12 big hs =
+-- Lowest first. `bits` is the first value of 258; with the first line kept, every value
+abbrev pub disagreements : Bool → List Held → List Fault
+disagreements big hs =
     let bits : ℕ = valueOf big Tag.bits hs in
     let samples : ℕ = valueOf big Tag.samples hs in
     let coding : ℕ = valueOf big Tag.compression hs in
-    firstOf
-    (breaks (not (eqb (countOf Tag.bits hs) samples) || not (all (eqb bits) (valuesOf big Tag.bits hs))) Tag.bits
-    ∷ breaks ((eqb coding 2 || eqb coding 32773) && (not (eqb bits 1) || not (eqb samples 1))) Tag.compression
-    ∷ breaks (not (eqb (countOf (offsetsTag hs) hs) (pieceCount big hs))) (offsetsTag hs)
-    ∷ breaks (not (eqb (countOf (byteCountsTag hs) hs) (pieceCount big hs))) (byteCountsTag hs)
-    ∷ [])
+    fault (not (eqb (countOf Tag.bits hs) samples) || not (all (eqb bits) (valuesOf big Tag.bits hs))) Tag.bits
+    ∷ fault ((eqb coding 2 || eqb coding 32773) && (not (eqb bits 1) || not (eqb samples 1))) Tag.compression
+    ∷ fault (not (eqb (countOf (offsetsTag hs) hs) (pieceCount big hs))) (offsetsTag hs)
+    ∷ fault (not (eqb (countOf (byteCountsTag hs) hs) (pieceCount big hs))) (byteCountsTag hs)
+    ∷ []
+
+unfoldable pub rule12 : Bool → List Held → Outcome
+rule12 big hs = firstThere (disagreements big hs)
