@@ -141,4 +141,5 @@ pub strips-kept : (f : List ℕ) → carries stripTags (entriesIn f (headIn f)) 
 strips-kept f some none = verdict-kept f none some
 
 -- The marked examples are in `Marked` (`marked`, one table), with the whole reading list of a file of each stage (`allowed`); those of tiles are in
--- `Tiled`, in the same two tables; the 45 kinds and the order of the tables in `Tables` (`kinds`, `known-order`).
+-- `Tiled`; accepted files of either byte order with their place on the ground in `Placed`; every call on one file, byte for byte, in `FileC`; files
+-- with two faults in `Faults`; both sides of the documents' numbers in `Boundaries`, `TagBoundaries` and `KeyBoundaries`; the 45 kinds in `Tables`.

@@ -22,7 +22,14 @@ pub mod Laid
 pub mod Settled
 -- examples and tables, computed
 pub mod Computed
+pub mod Files
 pub mod Marked
+pub mod FileC
+pub mod Placed
+pub mod Faults
+pub mod Boundaries
+pub mod TagBoundaries
+pub mod KeyBoundaries
 pub mod Tiled
 pub mod Tables
 -- laws that the proofs of code cite

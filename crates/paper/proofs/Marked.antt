@@ -20,6 +20,7 @@ use Rattle.paper.specs.Asked.{onList}
 use Rattle.paper.proofs.Computed.{computed}
 use Rattle.paper.specs.declared.Verdict.{Verdict}
 use Rattle.paper.specs.declared.Corners.{Corners}
+use Rattle.paper.specs.declared.Judged.{Judged}
 use Rattle.paper.specs.declared.Counted.{Counted}
 use Rattle.paper.specs.declared.Cited.{Cited}
 use Rattle.paper.specs.declared.Row.{Row}
@@ -90,24 +91,30 @@ unfolding fileA
 length-A = refl
 
 -- A with other bytes from a place on
-pub changed : ℕ → List ℕ → List ℕ
+unfoldable pub changed : ℕ → List ℕ → List ℕ
 unfolding fileA
 changed i bs = sets fileA i bs
 
 -- ---- the table of marked examples
 
--- a file, the rows that are lent, and what is answered: verdict with place and K, and the corners
+-- a file, the rows that are lent, and what two calls answer: the judgement its verdict with place, K and the corners, the rows call its verdict and K
 pub record Answers : Type 0 where
-  pub counted : Counted
+  pub judged : Counted
   pub corners : Corners
+  pub rows : Counted
 
 pub record Example : Type 0 where
   pub file : List ℕ
   pub lent : ℕ
   pub gives : Answers
 
+unfoldable pub count : Verdict → ℕ → Counted
+count v k = record { verdict = v; keys = k }
+
+-- the same verdict and K from both
 unfoldable pub answers : Verdict → ℕ → Corners → Answers
-answers v k c = record { counted = record { verdict = v; keys = k }; corners = c }
+unfolding count
+answers v k c = record { judged = count v k; corners = c; rows = count v k }
 
 -- k halves, as a double
 unfoldable pub half : ℕ → Float
@@ -137,7 +144,7 @@ unfolding answers
 refused f k p = record { file = f; lent = 256; gives = answers (verdict k p) 0 noCorners }
 
 pub examples : List Example
-unfolding accepted refused answers area point fileA changed enc
+unfolding accepted refused count area point fileA changed enc
 examples =
     -- A
     accepted fileA 3 area
@@ -164,13 +171,19 @@ examples =
     ∷ refused (changed 260 (enc 2 32662)) 19 3072
     -- scale X = 0
     ∷ refused (changed 158 (enc 8 0)) 21 33550
-    -- two rows lent: the rows call refuses, the corners are A's
-    ∷ record { file = fileA; lent = 2; gives = answers (verdict 23 3) 0 area }
+    -- two rows lent: the rows call alone refuses, with no K; the judgement of A is as before
+    ∷ record { file = fileA; lent = 2; gives = record { judged = count (verdict 0 0) 3; corners = area; rows = count (verdict 23 3) 0 } }
     ∷ []
 
 -- what the definitions answer
 unfoldable pub answered : Example → Answers
-answered x = record { counted = rowsOf (x .file) (x .lent); corners = judgedOf (x .file) .corners }
+answered x =
+    let j : Judged = judgedOf (x .file) in
+    record {
+      judged = record { verdict = j .verdict; keys = j .keys };
+      corners = j .corners;
+      rows = rowsOf (x .file) (x .lent);
+    }
 
 pub marked : map answered examples ≡ map (λ x. x .gives) examples
 unfolding examples answered computed
