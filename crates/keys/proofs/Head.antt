@@ -24,11 +24,11 @@ short-head big d h =
     rw (lt-ltb _ _ l, or-true, or-true, or-true, or-true)
 
 -- the test, on the four numbers as code read them
-pub head-test : (big : Bool) (d : List ℕ) (t : Bool) (a b c k : ℕ) → a ≡ num big 2 d 0 → b ≡ num big 2 d 2 → c ≡ num big 2 d 4 → k ≡ num big 2 d 6
+pub head-test : (t : Bool) (big : Bool) (d : List ℕ) (a b c k : ℕ) → a ≡ num big 2 d 0 → b ≡ num big 2 d 2 → c ≡ num big 2 d 4 → k ≡ num big 2 d 6
     → not (eqb a 1) || (not (eqb b 1) || (not (eqb c 0) || (ltb 256 k || ltb (length d / 2) (4 + 4 * k)))) ≡ t
     → breaks t 0 ≡ rule15 (runs big d [] [])
 unfolding rule15 short keyCount
-head-test big d t a b c k p q r s h = rw (← p, ← q, ← r, ← s, h)
+head-test t big d a b c k p q r s h = rw (← p, ← q, ← r, ← s, h)
 
 -- ---- the answer o of rule 15
 
@@ -64,3 +64,15 @@ headed big d o is-o h =
     let l : k ≤ 256 = ltb-false 256 k (v .0) in
     let m : 4 + 4 * k ≤ length d / 2 = ltb-false (length d / 2) (4 + 4 * k) (v .1) in
     record { few = l; whole = omega arith }
+
+-- the same of K as code read it
+module _ (big : Bool) (d : List ℕ) (o : Outcome) (is-o : o ≡ rule15 (runs big d [] [])) (keeps : o ≡ kept) where
+  pub head-there : 8 ≤ length d
+  head-there = omega (arith, headed big d o is-o keeps .whole)
+
+  module _ (k : ℕ) (is-k : k ≡ num big 2 d 6) where
+    pub head-few : k ≤ 256
+    head-few = rw is-k (headed big d o is-o keeps .few)
+
+    pub head-whole : 8 + 8 * k ≤ length d
+    head-whole = rw is-k (headed big d o is-o keeps .whole)

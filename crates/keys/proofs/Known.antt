@@ -51,17 +51,17 @@ noKnown = known 0 0
 
 -- ---- the answers of the lookup, from what it finds at a place p of its two arrays
 
-pub found : (k p : ℕ) (ks ns : List ℕ) → ks ≡ keyNumbers → ns ≡ keyKinds → p < 45 → getD ks p 0 ≡ k → getD ns p 0 ≡ kindOf k
+pub found : (k p w r : ℕ) (ks ns : List ℕ) → ks ≡ keyNumbers → ns ≡ keyKinds → p < 45 → w ≡ getD ks p 0 → w ≡ k → r ≡ getD ns p 0 → r ≡ kindOf k
 unfolding keyNumbers keyKinds knownKeys
-found k p ks ns hk hn h e =
+found k p w r ks ns hk hn h is-w e is-r =
     let a : getD ks p 0 ≡ getD knownKeys p noKnown .key = ap (λ (l : List ℕ). getD l p 0) hk ∙ List·getD-map (λ (x : Known). x .key) knownKeys p noKnown in
     let b : getD ns p 0 ≡ getD knownKeys p noKnown .kind = ap (λ (l : List ℕ). getD l p 0) hn ∙ List·getD-map (λ (x : Known). x .kind) knownKeys p noKnown in
-    b ∙ sym (eqb-true _ _ (all-at right knownKeys noKnown each-right p h)) ∙ ap kindOf (sym a ∙ e)
+    is-r ∙ b ∙ sym (eqb-true _ _ (all-at right knownKeys noKnown each-right p h)) ∙ ap kindOf (sym a ∙ sym is-w ∙ e)
 
-pub other : (k p : ℕ) (ks : List ℕ) → ks ≡ keyNumbers → p ≡ slotOf k → (getD ks p 0 ≡ k → ⊥) → 3 ≡ kindOf k
-other k p ks hk e n =
-    let f : eqb (getD ks p 0) k ≡ false = ne-eqb (getD ks p 0) k n in
-    let g : eqb (getD keyNumbers (slotOf k) 0) k ≡ false = rw (hk, e) at f in
+pub other : (k p w : ℕ) (ks : List ℕ) → ks ≡ keyNumbers → p ≡ slotOf k → w ≡ getD ks p 0 → (w ≡ k → ⊥) → 3 ≡ kindOf k
+other k p w ks hk e is-w n =
+    let f : eqb w k ≡ false = ne-eqb w k n in
+    let g : eqb (getD keyNumbers (slotOf k) 0) k ≡ false = rw (is-w, hk, e) at f in
     sym (unknown k (rw g (and-false (ltb (slotOf k) 45))))
 
 pub past : (k p : ℕ) → p ≡ slotOf k → 45 ≤ p → 3 ≡ kindOf k

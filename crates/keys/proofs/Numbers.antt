@@ -1,13 +1,13 @@
 -- Rules 18 and 19 from the numbers found of the asked keys, and the tests of one number as code makes them. Assumes nothing.
-use Prim.Native.Nat.{ℕ, _<_, _≤_}
-use mathlib.Core.Path.{_≡_, refl}
+use Prim.Native.Nat.{ℕ, _<_}
+use mathlib.Core.Path.{_≡_, refl, ap}
 use mathlib.Core.Bool.{Bool, true, false, not, _&&_, _||_, or-false}
 use mathlib.Core.List.{List, [], _∷_, map}
 use native.Mathlib.Omega.{arith}
-use lib.Dec.{eqb, leb, ltb}
-use borrow.Author.Tests.{eqb-true, eqb-false, ltb-true, le-leb, ne-eqb, leb-true}
+use lib.Dec.{eqb, ltb}
+use borrow.Author.Tests.{ltb-true, ne-eqb}
 use Rattle.paper.specs.Outcome.{firstBad}
-use Rattle.paper.specs.Tests.{just, inRange, some, all}
+use Rattle.paper.specs.Tests.{just, inRange, some, all, allows}
 use Rattle.paper.specs.Key
 use Rattle.paper.specs.Keys.{findKey, hasKey, keyValue, rule18, Fixed, fixed, fixedKeys, forbidden, rule19}
 use Rattle.paper.specs.declared.KeyEntry.{KeyEntry}
@@ -21,7 +21,7 @@ abbrev pub isNone : ℕ → ℕ → List ℕ → Bool
 isNone v a [] = not (eqb v a)
 isNone v a (b ∷ bs) = not (eqb v a) && isNone v b bs
 
-pub none-of : (v a : ℕ) (bs : List ℕ) → isNone v a bs ≡ not (some (inRange v) (just a ∷ map just bs))
+none-of : (v a : ℕ) (bs : List ℕ) → isNone v a bs ≡ not (some (inRange v) (just a ∷ map just bs))
 unfolding some
 none-of v a [] = rw (just-is v a, or-false (eqb v a))
 none-of v a (b ∷ bs) = rw (just-is v a) (go (eqb v a) (none-of v b bs))
@@ -30,6 +30,10 @@ none-of v a (b ∷ bs) = rw (just-is v a) (go (eqb v a) (none-of v b bs))
         → not t && isNone v b bs ≡ not (t || some (inRange v) (just b ∷ map just bs))
     go true h = refl
     go false h = h
+
+pub none-wrong : (v a : ℕ) (bs : List ℕ) → not (eqb v none) && isNone v a bs ≡ wrong (just a ∷ map just bs) v
+unfolding wrong allows
+none-wrong v a bs = ap (λ (b : Bool). not (eqb v none) && b) (none-of v a bs)
 
 -- ---- the number found of a key
 

@@ -1,19 +1,20 @@
 -- A key row at each location, as code makes it, and that its first byte is a number below 2 ^ 32 where rule 17 is kept and the three values lie
 -- below that. Assumes nothing.
 use Prim.Native.Nat.{ℕ, _+_, _*_, _≤_, _<_}
-use mathlib.Core.Path.{_≡_, refl}
+use mathlib.Core.Path.{_≡_, refl, ap}
 use mathlib.Core.Bool.{Bool, true, false, cond, _&&_, _||_}
 use mathlib.Core.List.{List, []}
 use native.Mathlib.Omega.{arith}
 use native.Mathlib.Nat.{zero-add}
 use lib.Dec.{eqb}
 use lib.ListN.{length, getD}
-use borrow.Author.Tests.{eqb-true, eqb-false, eq-eqb, ne-eqb, not-false}
+use borrow.Author.Tests.{eqb-true, eqb-false, ne-eqb, not-false}
 use Rattle.paper.specs.Tag
 use Rattle.paper.specs.Keys.{Runs, short, kindOf, room, within, inEntry, endsInBar, rightPlace, misplaced, keyAt, keyCount, keys, rule15, rule17, noKey}
 use Rattle.paper.specs.Bytes.{build}
 use Rattle.paper.specs.Calls.{Starts, rowOf}
 use Rattle.paper.specs.declared.KeyEntry.{KeyEntry}
+use Rattle.paper.specs.declared.Row.{Row}
 use Rattle.paper.specs.declared.Outcome.the-variants.{Kept as kept}
 use Rattle.paper.proofs.Laws.{and-eq, kept-all, length-build, getD-build}
 use Rattle.keys.specs.Pass.{runs}
@@ -22,27 +23,45 @@ use Rattle.keys.proofs.Placed.{within-gives}
 
 -- ---- the row at each location: e as it was read, k as the table gave it
 
-module _ (s : Starts) (i : ℕ) (e e′ : KeyEntry) (same : e ≡ e′) (k : ℕ) (is-k : k ≡ kindOf (e .key)) where
-  pub entry-row : e .location ≡ 0 → record { key = e .key; kind = k; first = s .directory + (8 * i + 14); len = 2 } ≡ rowOf s i e′
-  unfolding rowOf
-  entry-row h = rw (← same, is-k, eq-eqb _ _ h)
+module _ (s : Starts) (i : ℕ) (e e′ : KeyEntry) (same : e ≡ e′) where
+  abbrev row : ℕ → ℕ → ℕ → Row
+  row k first len = record { key = e .key; kind = k; first = first; len = len }
 
-  module _ (out : e .location ≡ 0 → ⊥) where
-    pub directory-row : e .location ≡ Tag.keyDirectory
-        → record { key = e .key; kind = k; first = s .directory + 2 * e .index; len = 2 * e .count } ≡ rowOf s i e′
+  module _ (k : ℕ) (is-k : k ≡ kindOf (e .key)) (r : Row) where
+    pub entry-row : e .location ≡ 0 → r ≡ row k (s .directory + (8 * i + 14)) 2 → r ≡ rowOf s i e′
     unfolding rowOf
-    directory-row h = rw (← same, is-k, ne-eqb _ _ out, eq-eqb _ _ h)
+    entry-row h q = rw (q, ← same, is-k, h)
 
-    module _ (not-directory : e .location ≡ Tag.keyDirectory → ⊥) where
-      pub doubles-row : e .location ≡ Tag.doubles
-          → record { key = e .key; kind = k; first = s .doubles + 8 * e .index; len = 8 * e .count } ≡ rowOf s i e′
-      unfolding rowOf
-      doubles-row h = rw (← same, is-k, ne-eqb _ _ out, ne-eqb _ _ not-directory, eq-eqb _ _ h)
+    pub directory-row : e .location ≡ Tag.keyDirectory → r ≡ row k (s .directory + 2 * e .index) (2 * e .count) → r ≡ rowOf s i e′
+    unfolding rowOf
+    directory-row h q = rw (q, ← same, is-k, h)
 
-      pub characters-row : (e .location ≡ Tag.doubles → ⊥)
-          → record { key = e .key; kind = k; first = s .characters + e .index; len = e .count } ≡ rowOf s i e′
-      unfolding rowOf
-      characters-row h = rw (← same, is-k, ne-eqb _ _ out, ne-eqb _ _ not-directory, ne-eqb _ _ h)
+    pub doubles-row : e .location ≡ Tag.doubles → r ≡ row k (s .doubles + 8 * e .index) (8 * e .count) → r ≡ rowOf s i e′
+    unfolding rowOf
+    doubles-row h q = rw (q, ← same, is-k, h)
+
+    pub characters-row : (e .location ≡ 0 → ⊥) → (e .location ≡ Tag.keyDirectory → ⊥) → (e .location ≡ Tag.doubles → ⊥)
+        → r ≡ row k (s .characters + e .index) (e .count) → r ≡ rowOf s i e′
+    unfolding rowOf
+    characters-row a b c q = rw (q, ← same, is-k, ne-eqb _ _ a, ne-eqb _ _ b, ne-eqb _ _ c)
+
+  -- its first byte n is below 2 ^ 32, where that of the entry's row is
+  module _ (low : rowOf s i e′ .first < 4294967296) (n : ℕ) where
+    below : (len : ℕ) → row (kindOf (e .key)) n len ≡ rowOf s i e′ → n < 4294967296
+    below len q = omega (arith, ap (λ (r : Row). r .first) q)
+
+    pub entry-low : e .location ≡ 0 → n ≡ s .directory + (8 * i + 14) → n < 4294967296
+    entry-low h q = below 2 (entry-row (kindOf (e .key)) refl (row _ n 2) h (rw q))
+
+    pub directory-low : e .location ≡ Tag.keyDirectory → n ≡ s .directory + 2 * e .index → n < 4294967296
+    directory-low h q = below (2 * e .count) (directory-row (kindOf (e .key)) refl (row _ n _) h (rw q))
+
+    pub doubles-low : e .location ≡ Tag.doubles → n ≡ s .doubles + 8 * e .index → n < 4294967296
+    doubles-low h q = below (8 * e .count) (doubles-row (kindOf (e .key)) refl (row _ n _) h (rw q))
+
+    pub characters-low : (e .location ≡ 0 → ⊥) → (e .location ≡ Tag.keyDirectory → ⊥) → (e .location ≡ Tag.doubles → ⊥) → n ≡ s .characters + e .index
+        → n < 4294967296
+    characters-low a b c q = below (e .count) (characters-row (kindOf (e .key)) refl (row _ n _) a b c (rw q))
 
 -- ---- where rule 17 is kept
 

@@ -20,6 +20,7 @@ use Rattle.paper.specs.declared.Outcome.{Outcome}
 use Rattle.paper.specs.declared.Outcome.the-variants.{Kept as kept, Broken as broken}
 use Rattle.paper.proofs.Laws.{build-step, and-eq}
 use Rattle.paper.proofs.Loops.{build-end}
+use Rattle.keys.specs.declared.KeysJudged.{KeysJudged}
 use Rattle.keys.specs.Pass.{runs, judged, entryRules, entriesJudged, none, nextKey, held, askedKeys, finished}
 use Rattle.paper.specs.Tests.{indexOf}
 use Rattle.paper.proofs.Store.{set-index}
@@ -47,7 +48,7 @@ rise e (x ∷ xs) h = go (leb (x .key) (e .key)) refl
     go false p = rw (p, lt-ltb (e .key) (x .key) (leb-false (x .key) (e .key) p))
 
 module _ (r : Runs) where
-  pub none-seen : Seen r [] kept kept none (none ∷ none ∷ none ∷ none ∷ none ∷ none ∷ none ∷ [])
+  none-seen : Seen r [] kept kept none (none ∷ none ∷ none ∷ none ∷ none ∷ none ∷ none ∷ [])
   unfolding rule16 ascending rule17 firstBad nextKey held all
   none-seen = record { rises = refl; placed = refl; after = refl; numbers = refl; small = refl }
 
@@ -67,13 +68,13 @@ module _ (r : Runs) where
     unfolding all
     small = rw (lt-ltb (e .index) none low′) (seen .small)
 
-    pub seen-in : Seen r (e ∷ es) (cond (leb n (e .key)) (broken n) a) (cond (misplaced r e) (broken (e .key)) b) (e .key)
+    seen-in : Seen r (e ∷ es) (cond (leb n (e .key)) (broken n) a) (cond (misplaced r e) (broken (e .key)) b) (e .key)
         (set f (indexOf (e .key) askedKeys) (e .index))
     unfolding nextKey
     seen-in = record { rises = rises; placed = placed; after = refl; numbers = numbers; small = small }
 
     -- one that is not asked for
-    pub seen-out : 7 ≤ indexOf (e .key) askedKeys
+    seen-out : 7 ≤ indexOf (e .key) askedKeys
         → Seen r (e ∷ es) (cond (leb n (e .key)) (broken n) a) (cond (misplaced r e) (broken (e .key)) b) (e .key) f
     unfolding nextKey
     seen-out h =
@@ -81,7 +82,7 @@ module _ (r : Runs) where
         record { rises = rises; placed = placed; after = refl; numbers = sym (set-out f (indexOf (e .key) askedKeys) (e .index) l) ∙ numbers; small = small }
 
   -- the answer once all are seen
-  pub finished-is : (ks : List KeyEntry) (a b : Outcome) (n : ℕ) (f : List ℕ) (k : ℕ) → Seen r ks a b n f
+  finished-is : (ks : List KeyEntry) (a b : Outcome) (n : ℕ) (f : List ℕ) (k : ℕ) → Seen r ks a b n f
       → finished a b f k ≡ judged (first (entryRules r ks)) k (eqb (keyValue Key.rasterType ks) 2)
   unfolding finished
   finished-is ks a b n f k s =
@@ -97,21 +98,18 @@ pub entry-any : (big : Bool) (d x t : List ℕ) (i : ℕ) → keyAt (runs big d 
 unfolding keyAt short
 entry-any big d x t i = refl
 
-pub rest-step : (big : Bool) (d x t : List ℕ) (c h : ℕ) (e : KeyEntry) → 0 < h → h ≤ c → e ≡ keyAt (runs big d [] []) (h - 1)
+rest-step : (big : Bool) (d x t : List ℕ) (c h : ℕ) (e : KeyEntry) → 0 < h → h ≤ c → e ≡ keyAt (runs big d [] []) (h - 1)
     → rest (runs big d x t) c (h - 1) ≡ e ∷ rest (runs big d x t) c h
 rest-step big d x t c h e p q w =
     let u : h - 1 + 1 ≡ h = omega arith in
     let s = build-step (keyAt (runs big d x t)) (h - 1) c (omega arith) in
     rw u at s ∙ ap (λ (y : KeyEntry). y ∷ rest (runs big d x t) c h) (sym (w ∙ entry-any big d x t (h - 1)))
 
-pub misplaced-any : (big : Bool) (d x t : List ℕ) (e : KeyEntry) → misplaced (runs false d x t) e ≡ misplaced (runs big d x t) e
+-- whether an entry is misplaced, as code tests it: from its kind, and in either byte order
+misplaced-by : (big : Bool) (d x t : List ℕ) (e : KeyEntry) (k : ℕ) (p : Bool) → p ≡ rightPlace (runs false d x t) e k → k ≡ kindOf (e .key)
+    → not p ≡ misplaced (runs big d x t) e
 unfolding misplaced rightPlace room
-misplaced-any big d x t e = refl
-
--- as code tests it, from the kind
-pub misplaced-by : (r : Runs) (e : KeyEntry) (k : ℕ) (p : Bool) → p ≡ rightPlace r e k → k ≡ kindOf (e .key) → not p ≡ misplaced r e
-unfolding misplaced
-misplaced-by r e k p h q = ap not (h ∙ ap (rightPlace r e) q)
+misplaced-by big d x t e k p h q = rw (h, q)
 
 -- a key that is asked for has kind SHORT
 index-out : (k : ℕ) (ks : List ℕ) → all (λ a. eqb (kindOf a) shortKind) ks ≡ true → (kindOf k ≡ shortKind → ⊥) → indexOf k ks ≡ length ks
@@ -122,36 +120,58 @@ index-out k (a ∷ ks) h n =
     let m : k ≡ a → ⊥ = λ e. n (ap kindOf e ∙ eqb-true _ _ (b .0)) in
     rw (ne-eqb k a m) (ap suc (index-out k ks (b .1) n))
 
-pub asked-short : (k : ℕ) → (kindOf k ≡ shortKind → ⊥) → 7 ≤ indexOf k askedKeys
+asked-short : (k : ℕ) → (kindOf k ≡ shortKind → ⊥) → 7 ≤ indexOf k askedKeys
 unfolding all kindOf kindIn knownKeys
 asked-short k n = let e : indexOf k askedKeys ≡ 7 = index-out k askedKeys refl n in omega arith
 
 -- ---- the loop: before its first turn, one turn, and after its last
 
-pub seen-start : (r : Runs) (c : ℕ) → Seen r (rest r c c) kept kept none (none ∷ none ∷ none ∷ none ∷ none ∷ none ∷ none ∷ [])
-seen-start r c = rw (build-end (keyAt r) c) (none-seen r)
+-- before entry i - 1 is looked at
+pub record Passing (big : Bool) (d x t : List ℕ) (c i : ℕ) (a b : Outcome) (n : ℕ) (f : List ℕ) : Type 0 where
+  pub few : i ≤ c
+  pub near : n ≤ none
+  pub seen : Seen (runs big d x t) (rest (runs big d x t) c i) a b n f
 
-module _ (big : Bool) (d x t : List ℕ) (c h : ℕ) (a b a′ b′ : Outcome) (n : ℕ) (f : List ℕ) (e : KeyEntry) (m : Bool) (s : ℕ)
-    (seen : Seen (runs big d x t) (rest (runs big d x t) c h) a b n f) (some : 0 < h) (few : h ≤ c)
-    (is-e : e ≡ keyAt (runs big d [] []) (h - 1)) (low : e .key < 65536) (low′ : e .index < 65536)
-    (is-a : a′ ≡ cond (leb n (e .key)) (broken n) a) (is-m : m ≡ misplaced (runs false d x t) e)
-    (is-b : b′ ≡ cond m (broken (e .key)) b) (is-s : s ≡ indexOf (e .key) askedKeys) where
+pub pass-start : (big : Bool) (d x t : List ℕ) (c : ℕ)
+    → Passing big d x t c c kept kept none (none ∷ none ∷ none ∷ none ∷ none ∷ none ∷ none ∷ [])
+pass-start big d x t c =
+    let r = runs big d x t in
+    record { few = omega arith; near = omega arith; seen = rw (build-end (keyAt r) c) (none-seen r) }
+
+module _ {big : Bool} {d x t : List ℕ} {c h : ℕ} {a b : Outcome} {n : ℕ} {f : List ℕ} (pass : Passing big d x t c h a b n f) (some : 0 < h) {e : KeyEntry}
+    (is-e : e ≡ keyAt (runs big d [] []) (h - 1)) (low : e .key < 65536) (low′ : e .index < 65536) {a′ : Outcome}
+    (is-a : a′ ≡ cond (leb n (e .key)) (broken n) a) {k : ℕ} (is-k : k ≡ kindOf (e .key)) {p : Bool} (is-p : p ≡ rightPlace (runs false d x t) e k)
+    {b′ : Outcome} (is-b : b′ ≡ cond (not p) (broken (e .key)) b) where
   is-b′ : b′ ≡ cond (misplaced (runs big d x t) e) (broken (e .key)) b
-  is-b′ = is-b ∙ ap (λ (y : Bool). cond y (broken (e .key)) b) (is-m ∙ misplaced-any big d x t e)
+  is-b′ = is-b ∙ ap (λ (y : Bool). cond y (broken (e .key)) b) (misplaced-by big d x t e k p is-p is-k)
 
-  pub turn-in : Seen (runs big d x t) (rest (runs big d x t) c (h - 1)) a′ b′ (e .key) (set f s (e .index))
-  turn-in = rw (rest-step big d x t c h e some few is-e, is-a, is-b′, is-s) (seen-in (runs big d x t) (rest (runs big d x t) c h) a b n f seen e low low′)
+  passed : (g : List ℕ)
+      → Seen (runs big d x t) (e ∷ rest (runs big d x t) c h) (cond (leb n (e .key)) (broken n) a) (cond (misplaced (runs big d x t) e) (broken (e .key)) b)
+      (e .key) g
+      → Passing big d x t c (h - 1) a′ b′ (e .key) g
+  passed g s =
+      record { few = omega (arith, pass .few); near = omega arith; seen = rw (rest-step big d x t c h e some (pass .few) is-e, is-a, is-b′) s }
 
-  pub turn-out : 7 ≤ s → Seen (runs big d x t) (rest (runs big d x t) c (h - 1)) a′ b′ (e .key) f
-  turn-out q =
-      let o : 7 ≤ indexOf (e .key) askedKeys = rw is-s at q in
-      rw (rest-step big d x t c h e some few is-e, is-a, is-b′) (seen-out (runs big d x t) (rest (runs big d x t) c h) a b n f seen e low low′ o)
+  -- a key that is asked for, at place s of those
+  pub turn-in : {s : ℕ} → s ≡ indexOf (e .key) askedKeys → Passing big d x t c (h - 1) a′ b′ (e .key) (set f s (e .index))
+  turn-in {s} q = passed (set f s (e .index)) (rw q (seen-in (runs big d x t) (rest (runs big d x t) c h) a b n f (pass .seen) e low low′))
 
-pub none-left : (i : ℕ) → i ≤ 0 → i ≡ 0
-none-left i h = omega arith
+  -- one that is not
+  out : 7 ≤ indexOf (e .key) askedKeys → Passing big d x t c (h - 1) a′ b′ (e .key) f
+  out o = passed f (seen-out (runs big d x t) (rest (runs big d x t) c h) a b n f (pass .seen) e low low′ o)
 
-pub pass-done : (r : Runs) (c i : ℕ) (a b : Outcome) (n : ℕ) (f : List ℕ) → i ≡ 0 → Seen r (rest r c i) a b n f → finished a b f c ≡ entriesJudged r c
+  pub turn-out : {s : ℕ} → s ≡ indexOf (e .key) askedKeys → 7 ≤ s → Passing big d x t c (h - 1) a′ b′ (e .key) f
+  turn-out q o = out (rw q at o)
+
+  -- one of another kind
+  pub turn-other : (k ≡ shortKind → ⊥) → Passing big d x t c (h - 1) a′ b′ (e .key) f
+  turn-other o = out (asked-short (e .key) (λ z. o (is-k ∙ z)))
+
+pub pass-end : {big o : Bool} {d x t : List ℕ} {c i : ℕ} {a b a′ b′ : Outcome} {n : ℕ} {f f′ : List ℕ} {j : KeysJudged} → Passing o d x t c i a b n f
+    → big ≡ o → i ≤ 0 → a′ ≡ a → b′ ≡ b → f′ ≡ f → j ≡ finished a′ b′ f′ c → j ≡ entriesJudged (runs big d x t) c
 unfolding entriesJudged
-pass-done r c i a b n f z seen =
-    let s : Seen r (build (keyAt r) 0 c) a b n f = rw (z, sub-zero) at seen in
-    finished-is r (build (keyAt r) 0 c) a b n f c s
+pass-end {o = o} {d = d} {x = x} {t = t} {c = c} {i = i} {a = a} {b = b} {n = n} {f = f} pass is-o none-left is-a is-b is-f is-j =
+    let r = runs o d x t in
+    let z : i ≡ 0 = omega arith in
+    let s : Seen r (build (keyAt r) 0 c) a b n f = rw (z, sub-zero) at (pass .seen) in
+    is-j ∙ rw (is-a, is-b, is-f, is-o) (finished-is r (build (keyAt r) 0 c) a b n f c s)

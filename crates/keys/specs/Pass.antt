@@ -1,5 +1,5 @@
 -- Rules 15 to 19 as one pass over the key entries finds them, and what the judgement of the keys answers. Assumes nothing.
-use Prim.Native.Nat.{ℕ, suc}
+use Prim.Native.Nat.{ℕ}
 use mathlib.Core.Bool.{Bool, false, cond, not, _&&_}
 use mathlib.Core.List.{List, [], _∷_}
 use lib.Dec.{eqb}

@@ -279,7 +279,7 @@ fn is_within(e: KeyEntry, room: usize) -> bool
     (1 <= e.count) & (e.index + e.count <= room)
 }
 
-// Whether location, count and value index are as the kind asks. Most keys have their number in the entry.
+// Rule 17 at one entry: whether location, count and value index are as the kind asks. Most keys have their number in the entry.
 fn is_placed(directory: &[u8], doubles: &[u8], characters: &[u8], e: KeyEntry, kind: u32) -> bool
     requires { ⌜ (e .count < 65536) × (e .index < 65536) ⌝ }
     ensures { λ r. ⌜ r ≡ rightPlace (runs false (now (directory .entry)) (now (doubles .entry)) (now (characters .entry))) e kind ⌝ }
@@ -462,7 +462,9 @@ fn finish(sixteen: Outcome, seventeen: Outcome, found: &[usize; 7], count: usize
     requires { ⌜ count < 4294967296 ⌝ }
     ensures { λ r. ⌜ r ≡ finished sixteen seventeen (now (found .entry)) count ⌝ }
 {
+    // Rule 18: the needed keys are there.
     let eighteen = needed_keys(found[0], found[1], found[2], found[4]);
+    // Rule 19: the numbers of the keys are allowed ones.
     let nineteen = allowed_values(
         found[0],
         found[1],
@@ -504,11 +506,14 @@ fn judge_entries(
         while 0 < i {
             i -= 1;
             let e = entry_at(directory, true, i);
+            // Rule 16: a key is below the next one.
             sixteen = broken_or(next <= e.key, next, sixteen);
             next = e.key;
+            // Rule 17: location, count and value index are as the kind asks.
             let kind = kind_in(keys, kinds, e.key);
             let placed = is_placed(directory, doubles, characters, e, kind);
             seventeen = broken_or(!placed, e.key, seventeen);
+            // What rules 18 and 19 ask for: the number of a key.
             if kind == 0 {
                 let at = asked(e.key);
                 if at < 7 {
@@ -520,11 +525,14 @@ fn judge_entries(
         while 0 < i {
             i -= 1;
             let e = entry_at(directory, false, i);
+            // Rule 16: a key is below the next one.
             sixteen = broken_or(next <= e.key, next, sixteen);
             next = e.key;
+            // Rule 17: location, count and value index are as the kind asks.
             let kind = kind_in(keys, kinds, e.key);
             let placed = is_placed(directory, doubles, characters, e, kind);
             seventeen = broken_or(!placed, e.key, seventeen);
+            // What rules 18 and 19 ask for: the number of a key.
             if kind == 0 {
                 let at = asked(e.key);
                 if at < 7 {
@@ -540,6 +548,7 @@ fn judge_entries(
 pub fn judge_keys(big: bool, directory: &[u8], doubles: &[u8], characters: &[u8]) -> KeysJudged
     ensures { λ r. ⌜ r ≡ keysJudged (runs big (now (directory .entry)) (now (doubles .entry)) (now (characters .entry))) ⌝ }
 {
+    // Rule 15: the header.
     let fifteen = header(big, directory);
     if let Outcome::Broken(place) = fifteen {
         return KeysJudged {

@@ -1,7 +1,8 @@
 -- `asked` is the place of a key among those that rules 18 and 19 ask for.
 -- Assumes nothing.
+use Rattle.keys.proofs.Answers.{not-asked}
+use borrow.Author.Needs.{needs}
 use Rattle.paper.specs.Tests.{indexOf}
-use borrow.Author.Tests.{ne-eqb}
 use Rattle.keys.proofs.asked.Statement.{statement}
 use Rattle.keys.proofs.asked.Tie as tie
 
@@ -34,8 +35,7 @@ unfolding indexOf
 returns-7 c = rw (c .match .keys7)
 
 returns-8 : tie.Need-returns-8
-unfolding indexOf
-returns-8 c = simp (ne-eqb _ _ (c .match .rest .0 .0 .0 .0 .0 .0 .1), ne-eqb _ _ (c .match .rest .0 .0 .0 .0 .0 .1), ne-eqb _ _ (c .match .rest .0 .0 .0 .0 .1), ne-eqb _ _ (c .match .rest .0 .0 .0 .1), ne-eqb _ _ (c .match .rest .0 .0 .1), ne-eqb _ _ (c .match .rest .0 .1), ne-eqb _ _ (c .match .rest .1))
+returns-8 c = search (needs, not-asked)
 
 pub asked-spec : {M : Type 1} → statement M
 asked-spec =

@@ -1,8 +1,6 @@
 -- `entry_at` reads the four numbers of a key entry, each at its place.
 -- Assumes nothing.
-use Rattle.paper.specs.Keys.{keyAt, short}
-use mathlib.Core.Path.{_≡_}
-use Prim.Native.Nat.{_+_, _*_}
+use Rattle.keys.proofs.Answers.{entry-read}
 use native.Mathlib.Omega.{arith}
 use borrow.Author.Needs.{needs}
 use Rattle.keys.proofs.entry_at.Statement.{statement}
@@ -36,14 +34,7 @@ short-requires-4 : tie.Need-short-requires-4
 short-requires-4 c κs = search needs
 
 returns : tie.Need-returns
-unfolding keyAt short
-returns c =
-    let i = c .before .before .before .before .before .args .i in
-    let e0 : 2 * (4 + 4 * i) ≡ 8 * i + 8 = omega arith in
-    let e1 : 2 * (5 + 4 * i) ≡ 8 * i + 10 = omega arith in
-    let e2 : 2 * (6 + 4 * i) ≡ 8 * i + 12 = omega arith in
-    let e3 : 2 * (7 + 4 * i) ≡ 8 * i + 14 = omega arith in
-    (rw (e0, e1, e2, e3, ← c .before .before .before .short .ensures .0, ← c .before .before .short2 .ensures .0, ← c .before .short3 .ensures .0, ← c .short4 .ensures .0), omega arith, omega arith, omega arith, omega arith)
+returns c = (search (needs, entry-read), omega arith, omega arith, omega arith, omega arith)
 
 pub entry-at-spec : {M : Type 1} → statement M
 entry-at-spec =

@@ -1,7 +1,6 @@
 -- `finish` chains the outcomes of rules 16 to 19.
 -- Assumes nothing.
-use Rattle.paper.specs.Outcome.{first}
-use Rattle.keys.specs.Pass.{finished}
+use Rattle.keys.proofs.Answers.{chained}
 use borrow.Author.Needs.{needs}
 use Rattle.keys.proofs.finish.Statement.{statement}
 use Rattle.keys.proofs.finish.Tie as tie
@@ -64,8 +63,7 @@ answer-requires : tie.Need-answer-requires
 answer-requires c κs = search needs
 
 returns : tie.Need-returns
-unfolding finished first
-returns c = rw (c .answer .ensures, c .before .before .or-else4 .ensures, c .before .before .before .or-else3 .ensures, c .before .before .before .before .or-else2 .ensures, c .before .before .before .before .before .or-else .ensures, c .before .before .before .before .before .before .before .before .before .before .before .before .before .before .needed-keys .ensures, c .before .before .before .before .before .before .allowed-values .ensures)
+returns c = search (chained, c .before .before .before .before .before .before .before .before .before .before .before .before .before .before .needed-keys .ensures)
 
 pub finish-spec : {M : Type 1} → statement M
 finish-spec =

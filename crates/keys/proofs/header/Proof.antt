@@ -7,7 +7,7 @@ use Rattle.keys.proofs.header.Statement.{statement}
 use Rattle.keys.proofs.header.Tie as tie
 
 returns : tie.Need-returns
-returns c = short-head (c .before .before .args .big) (c .before .before .args .directory .now) (c .if1 .taken)
+returns c = search (needs, short-head)
 
 short-requires : tie.Need-short-requires
 short-requires c κs = search needs
@@ -28,10 +28,10 @@ add-many : tie.Need-add-many
 add-many c = search needs
 
 returns-2 : tie.Need-returns-2
-returns-2 c = head-test (c .before .before .before .before .before .before .before .args .big) (c .before .before .before .before .before .before .before .args .directory .now) true _ _ _ _ (c .before .before .before .before .short .ensures .0) (c .before .before .before .short2 .ensures .0) (c .before .before .short3 .ensures .0) (c .before .short4 .ensures .0) (c .if2 .taken)
+returns-2 c = search (needs, head-test true)
 
 returns-3 : tie.Need-returns-3
-returns-3 c = head-test (c .before .before .before .before .before .before .before .args .big) (c .before .before .before .before .before .before .before .args .directory .now) false _ _ _ _ (c .before .before .before .before .short .ensures .0) (c .before .before .before .short2 .ensures .0) (c .before .before .short3 .ensures .0) (c .before .short4 .ensures .0) (c .if2 .left)
+returns-3 c = search (needs, head-test false)
 
 pub header-spec : {M : Type 1} → statement M
 header-spec =

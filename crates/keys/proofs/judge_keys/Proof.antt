@@ -2,9 +2,8 @@
 -- Assumes nothing.
 use Rattle.paper.specs.Keys.{knownKeys}
 use Rattle.keys.specs.Table.{keyNumbers, keyKinds}
-use Rattle.keys.proofs.Head.{head-broken, head-kept, headed}
+use Rattle.keys.proofs.Head.{head-broken, head-kept, head-there, head-few, head-whole}
 use mathlib.Core.Path.{refl}
-use native.Mathlib.Omega.{arith}
 use borrow.Author.Needs.{needs}
 use Rattle.keys.proofs.judge_keys.Statement.{statement}
 use Rattle.keys.proofs.judge_keys.Tie as tie
@@ -16,34 +15,20 @@ enum-known-fifteen : tie.Need-enum-known-fifteen
 enum-known-fifteen c = search needs
 
 returns : tie.Need-returns
-returns c =
-    let a = c .before .before .before .before .before .before .before .args in
-    let h = c .before .before .before .header in
-    head-broken (a .big) (a .directory .now) (a .doubles .now) (a .characters .now) (h .result) (h .ensures) _ (c .before .fifteen .given .1)
+returns c = search (needs, head-broken)
 
 enum-told : tie.Need-enum-told
 enum-told c = search needs
 
 short-requires : tie.Need-short-requires
-short-requires c κs =
-    let a = c .before .before .before .before .before .before .args in
-    let h = c .before .before .header in
-    let k = headed (a .big) (a .directory .now) (h .result) (h .ensures) (c .enum-told .given .1) in
-    omega (arith, k .whole)
+short-requires c κs = search (needs, head-there)
 
 judge-entries-requires : tie.Need-judge-entries-requires
 unfolding keyNumbers keyKinds knownKeys
-judge-entries-requires c κs =
-    let a = c .before .before .before .before .before .before .before .before .before .args in
-    let h = c .before .before .before .before .before .header in
-    let k = headed (a .big) (a .directory .now) (h .result) (h .ensures) (c .before .before .before .enum-told .given .1) in
-    (refl, refl, omega (arith, k .few, c .before .before .short .ensures .0), omega (arith, k .whole, c .before .before .short .ensures .0))
+judge-entries-requires c κs = (refl, refl, search (needs, head-few), search (needs, head-whole))
 
 returns-2 : tie.Need-returns-2
-returns-2 c =
-    let a = c .before .before .before .before .before .before .before .before .before .before .args in
-    let h = c .before .before .before .before .before .before .header in
-    head-kept (a .big) (a .directory .now) (a .doubles .now) (a .characters .now) (h .result) (h .ensures) _ _ (c .before .before .before .before .enum-told .given .1) (c .before .before .before .short .ensures .0) (c .judge-entries .ensures)
+returns-2 c = search (needs, head-kept)
 
 pub judge-keys-spec : {M : Type 1} → statement M
 judge-keys-spec =

@@ -1,7 +1,6 @@
 -- `kind_in` is the kind of a key: found in the table, not there, or past its end, each a law of `Known`.
 -- Assumes nothing.
 use Rattle.keys.proofs.Known.{found, other, past}
-use mathlib.Core.Path.{sym, _∙_}
 use borrow.Author.Needs.{needs}
 use Rattle.keys.proofs.kind_in.Statement.{statement}
 use Rattle.keys.proofs.kind_in.Tie as tie
@@ -25,10 +24,10 @@ wide-kind-requires : tie.Need-wide-kind-requires
 wide-kind-requires c κs = search needs
 
 returns : tie.Need-returns
-returns c = c .wide-kind .ensures ∙ found _ _ _ _ (c .before .before .before .before .before .before .before .pre .0) (c .before .before .before .before .before .before .before .pre .1) (c .before .before .before .before .before .if1 .taken) (sym (c .before .before .before .wide .ensures) ∙ c .before .before .if2 .taken)
+returns c = search (needs, found)
 
 returns-2 : tie.Need-returns-2
-returns-2 c = other _ _ _ (c .before .before .before .before .before .pre .0) (c .before .before .before .before .slot .ensures) (λ e. c .if2 .left (c .before .wide .ensures ∙ e))
+returns-2 c = search (needs, other)
 
 returns-3 : tie.Need-returns-3
 returns-3 c = search (needs, past)
