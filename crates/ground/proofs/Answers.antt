@@ -73,7 +73,10 @@ module _ (t : Triple) (h : finiteTriple t ≡ true) where
   unfolding finiteTriple
   triple-b = and-eq _ _ (and-eq (finite (doubleOf (t .a))) _ h .1) .0
 
--- a test of the scale or of the two halves that was kept
+-- a test that was kept
+pub turned : (a r : Bool) → r ≡ a → not r ≡ false → a ≡ true
+turned a r R e = sym R ∙ not-false r e
+
 pub scale-finite : (s : Triple) → scaleKept s ≡ true → finiteTriple s ≡ true
 unfolding scaleKept
 scale-finite s h = and-eq (finiteTriple s) _ h .0
@@ -89,9 +92,6 @@ module _ (s : Triple) (r : Bool) (R : r ≡ finiteTriple s) where
   unfolding scaleKept
   scale-no e = rw (sym R ∙ not-true r e)
 
-  pub turned-triple : not r ≡ false → finiteTriple s ≡ true
-  turned-triple e = sym R ∙ not-false r e
-
   pub scale-yes : not r ≡ false → (x y : Float) → x ≡ doubleOf (s .a) → y ≡ doubleOf (s .b) → lt zero64 x && lt zero64 y ≡ scaleKept s
   unfolding scaleKept
   scale-yes e x y X Y = rw (X, Y, sym R ∙ not-false r e)
@@ -102,9 +102,8 @@ unfolding scaledOf
 scaled-is s t a b c d x y A B C D X Y = rw (A, B, C, D, X, Y)
 
 -- what `scaled_of` asks
-pub both-kept : (s p q : Triple) (r u v : Bool) → r ≡ scaleKept s → not r ≡ false → u ≡ finiteTriple p → v ≡ finiteTriple q → not (u && v) ≡ false
-    → (scaleKept s ≡ true) × (finiteTriple p && finiteTriple q ≡ true)
-both-kept s p q r u v R e P Q d = (sym R ∙ not-false r e, rw (← P, ← Q) (not-false (u && v) d))
+pub both-finite : (p q : Triple) (u v : Bool) → u ≡ finiteTriple p → v ≡ finiteTriple q → not (u && v) ≡ false → finiteTriple p && finiteTriple q ≡ true
+both-finite p q u v P Q d = rw (← P, ← Q) (not-false (u && v) d)
 
 module _ (big : Bool) (s t : List ℕ) (w l : ℕ) (point : Bool) (sized : Holds 24 s × Holds 48 t) where
   pair : rule20 (surveyed big s t [] w l point) ≡ Kept
@@ -187,12 +186,18 @@ module _ (m : Matrix) (a b c d : Bool) (A : a ≡ finiteQuad (m .first)) (B : b 
   matrix-yes e x h = rw (← A, ← B, ← C, ← D, not-false (a && (b && (c && d))) e) h
 
   -- what `matrix_spans` asks
-  pub rows-kept : not (a && (b && (c && d))) ≡ false
-      → (finiteQuad (m .first) ≡ true) × ((finiteQuad (m .second) ≡ true) × (finiteQuad (m .fourth) ≡ true))
-  rows-kept e =
-      let h = and-eq a (b && (c && d)) (not-false (a && (b && (c && d))) e) in
-      let i = and-eq b (c && d) (h .1) in
-      (sym A ∙ h .0, (sym B ∙ i .0, sym D ∙ and-eq c d (i .1) .1))
+  module _ (e : not (a && (b && (c && d))) ≡ false) where
+    rows : (a ≡ true) × (b && (c && d) ≡ true)
+    rows = and-eq a (b && (c && d)) (not-false (a && (b && (c && d))) e)
+
+    pub first-kept : finiteQuad (m .first) ≡ true
+    first-kept = sym A ∙ rows .0
+
+    pub second-kept : finiteQuad (m .second) ≡ true
+    second-kept = sym B ∙ and-eq b (c && d) (rows .1) .0
+
+    pub fourth-kept : finiteQuad (m .fourth) ≡ true
+    fourth-kept = sym D ∙ and-eq c d (and-eq b (c && d) (rows .1) .1) .1
 
 -- what `affine_of` asks
 pub first-rows : (m : Matrix) (k : Bool) → k ≡ matrixKept m → not k ≡ false → (finiteQuad (m .first) ≡ true) × (finiteQuad (m .second) ≡ true)

@@ -1,1 +1,2 @@
+-- The laws that the proofs of this crate share. Assumes nothing.
 pub mod Sums

@@ -1,45 +1,38 @@
--- A number of w bytes as code spells it, byte by byte at p, p + 1, p + 2 ..: shown once over the width. Assumes nothing.
+-- A number of w bytes as code spells it, byte by byte at p, p + 1, p + 2 ..: shown once over the order and the width. Assumes nothing.
 use Prim.Native.Nat.{ℕ, zero, suc, _+_, _*_, _^_}
 use mathlib.Core.Path.{_≡_, refl, ap, _∙_}
-use mathlib.Core.Bool.{true, false}
+use mathlib.Core.Bool.{Bool, true, false}
 use mathlib.Core.List.{List}
 use native.Mathlib.Nat.{add-suc}
 use native.Mathlib.Numerals.{add-one}
 use lib.ListN.{getD}
 use Rattle.paper.specs.Bytes.{num}
 
+-- a byte before a number of w bytes
+abbrev before : Bool → ℕ → ℕ → ℕ → ℕ
+before true w b n = b * 256 ^ w + n
+before false w b n = b + 256 * n
+
 module _ (s : List ℕ) (p : ℕ) where
   -- w bytes from p + k on
-  abbrev pub littleFrom : ℕ → ℕ → ℕ
-  littleFrom zero k = 0
-  littleFrom (suc w) k = getD s (p + k) 0 + 256 * littleFrom w (suc k)
+  abbrev from : Bool → ℕ → ℕ → ℕ
+  from big zero k = 0
+  from big (suc w) k = before big w (getD s (p + k) 0) (from big w (suc k))
 
-  abbrev pub bigFrom : ℕ → ℕ → ℕ
-  bigFrom zero k = 0
-  bigFrom (suc w) k = getD s (p + k) 0 * 256 ^ w + bigFrom w (suc k)
-
-  little-from : (w k : ℕ) → num false w s (p + k) ≡ littleFrom w k
+  first : (big : Bool) (w at : ℕ) → num big (suc w) s at ≡ before big w (getD s at 0) (num big w s (suc at))
   unfolding num
-  little-from zero k = refl
-  little-from (suc w) k =
-      ap (λ (n : ℕ). getD s (p + k) 0 + 256 * n) (ap (num false w s) (add-one-after k) ∙ little-from w (suc k))
-    where
-      add-one-after : (j : ℕ) → suc (p + j) ≡ p + suc j
-      add-one-after j = rw add-suc
+  first true w at = refl
+  first false w at = refl
 
-  big-from : (w k : ℕ) → num true w s (p + k) ≡ bigFrom w k
+  none : (big : Bool) (at : ℕ) → num big 0 s at ≡ 0
   unfolding num
-  big-from zero k = refl
-  big-from (suc w) k =
-      ap (λ (n : ℕ). getD s (p + k) 0 * 256 ^ w + n) (ap (num true w s) (add-one-after k) ∙ big-from w (suc k))
-    where
-      add-one-after : (j : ℕ) → suc (p + j) ≡ p + suc j
-      add-one-after j = rw add-suc
+  none true at = refl
+  none false at = refl
 
-  pub spelled-little : (w : ℕ) → num false (suc w) s p ≡ getD s p 0 + 256 * littleFrom w 1
-  unfolding num
-  spelled-little w = ap (λ (n : ℕ). getD s p 0 + 256 * n) (ap (num false w s) (rw add-one) ∙ little-from w 1)
+  num-from : (big : Bool) (w k : ℕ) → num big w s (p + k) ≡ from big w k
+  num-from big zero k = none big (p + k)
+  num-from big (suc w) k =
+      first big w (p + k) ∙ ap (before big w (getD s (p + k) 0)) (ap (num big w s) (rw add-suc) ∙ num-from big w (suc k))
 
-  pub spelled-big : (w : ℕ) → num true (suc w) s p ≡ getD s p 0 * 256 ^ w + bigFrom w 1
-  unfolding num
-  spelled-big w = ap (λ (n : ℕ). getD s p 0 * 256 ^ w + n) (ap (num true w s) (rw add-one) ∙ big-from w 1)
+  pub spelled : (big : Bool) (w : ℕ) → num big (suc w) s p ≡ before big w (getD s p 0) (from big w 1)
+  spelled big w = first big w p ∙ ap (before big w (getD s p 0)) (ap (num big w s) (rw add-one) ∙ num-from big w 1)

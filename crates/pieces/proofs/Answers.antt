@@ -1,23 +1,21 @@
--- One lemma for each answer of the code, with the facts of its path as premises. Assumes nothing.
-use Prim.Native.Nat.{ℕ, zero, suc, _+_, _-_, _*_, _%_, _≤_, _<_, min, max, zero-le, suc-le-suc}
-use mathlib.Core.Path.{_≡_, refl, sym, ap, ap₂, _∙_, subst}
-use mathlib.Core.Bool.{Bool, true, false, cond, not, _&&_, _||_, or-true}
+-- The gap around a byte as `gap_of` computes it, and the ends of a place as `is_out` counts them: one law for each answer, with the facts of its
+-- path as premises. Assumes nothing.
+use Prim.Native.Nat.{ℕ, _+_, _-_, _%_, _≤_, _<_, min, max, zero-le}
+use mathlib.Core.Path.{_≡_, refl, ap, _∙_, subst}
+use mathlib.Core.Bool.{Bool, true, false, cond, _&&_, _||_, or-true}
 use mathlib.Core.List.{List, [], _∷_}
 use native.Mathlib.Omega.{arith}
-use native.Mathlib.Nat.{sub-zero, zero-add, mul-suc, mul-le-mul-left}
+use native.Mathlib.Nat.{sub-zero, zero-add}
 use lib.Dec.{ltb, leb, eqb}
 use lib.ListN.{getD}
 use borrow.Author.Tests.{eqb-true, eqb-false, leb-true, le-leb, lt-leb, ltb-true, ltb-false, le-ltb, lt-ltb}
-use Rattle.paper.specs.Bytes.{num, build}
-use Rattle.paper.specs.Outcome.{firstBad, orElse, first, verdict}
-use Rattle.paper.specs.declared.Outcome.the-variants.{Kept as kept, Broken as broken}
-use Rattle.paper.specs.Tests.{all, some, keep}
-use Rattle.paper.specs.Pieces.{Part, part, Piece, shares, placeAt, placesOf, badPiece, touches, rule13, rule14}
-use Rattle.paper.proofs.Laws.{build-step, and-eq, or-false, or-both}
+use Rattle.paper.specs.Bytes.{build}
+use Rattle.paper.specs.Tests.{keep}
+use Rattle.paper.specs.Pieces.{Part, part}
+use Rattle.paper.proofs.Laws.{build-step, and-eq}
 use Rattle.paper.proofs.Loops.{build-end}
-use Rattle.pieces.specs.Gaps.{rangeAt, wide, rangesOf, clear, Found, fromPlace, placesJudged}
-use Rattle.pieces.proofs.Gaps.{clear-free, Around, around-none, around-behind, around-before, found-gap}
-use Rattle.paper.specs.declared.Verdict.{Verdict}
+use Rattle.pieces.specs.Gaps.{Low, rangeAt, wide, rangesOf, Found}
+use Rattle.pieces.proofs.Gaps.{Around, around-none, around-behind, around-before, found-gap}
 
 -- ---- gap_of: the ranges from j on
 
@@ -31,11 +29,11 @@ module _ (starts lens : List ℕ) (m : ℕ) where
   abbrev At : ℕ → Part
   At j = part (getD starts j 0) (getD lens j 0)
 
-  pub ranges-none : Ranges m ≡ []
+  ranges-none : Ranges m ≡ []
   unfolding keep
   ranges-none = ap (keep wide) (build-end (rangeAt starts lens) m)
 
-  pub ranges-all : (j : ℕ) → j ≤ 0 → Ranges j ≡ rangesOf starts lens m
+  ranges-all : (j : ℕ) → j ≤ 0 → Ranges j ≡ rangesOf starts lens m
   unfolding rangesOf
   ranges-all j z =
       let a : j ≡ 0 = omega arith in
@@ -48,20 +46,22 @@ module _ (starts lens : List ℕ) (m : ℕ) where
       ap (keep wide) (build-step (rangeAt starts lens) (j - 1) m (omega arith))
       ∙ ap (λ (i : ℕ). keep wide (rangeAt starts lens (j - 1) ∷ build (rangeAt starts lens) i (m - i))) k
 
-  pub ranges-more : (j : ℕ) → 0 < j → j ≤ m → 4 < getD lens (j - 1) 0 → Ranges (j - 1) ≡ At (j - 1) ∷ Ranges j
+  ranges-more : (j : ℕ) → 0 < j → j ≤ m → 4 < getD lens (j - 1) 0 → Ranges (j - 1) ≡ At (j - 1) ∷ Ranges j
   unfolding wide
   ranges-more j p q w = ranges-step j p q ∙ rw (lt-ltb 4 (getD lens (j - 1) 0) w)
 
-  pub ranges-same : (j : ℕ) → 0 < j → j ≤ m → getD lens (j - 1) 0 ≤ 4 → Ranges (j - 1) ≡ Ranges j
+  ranges-same : (j : ℕ) → 0 < j → j ≤ m → getD lens (j - 1) 0 ≤ 4 → Ranges (j - 1) ≡ Ranges j
   unfolding wide
   ranges-same j p q w = ranges-step j p q ∙ rw (le-ltb 4 (getD lens (j - 1) 0) w)
 
-pub counted-low : (len from : ℕ) → cond (ltb 4 len) from 0 ≤ from
-counted-low len from = go (ltb 4 len)
+-- a range that counts ends within 64 bits
+pub end-fits : (starts lens : List ℕ) (j from : ℕ) → Low starts → Low lens → from ≡ cond (ltb 4 (getD lens j 0)) (getD starts j 0) 0
+    → from + getD lens j 0 < 18446744073709551616
+end-fits starts lens j from low short is-from = omega (arith, low j, short j, is-from, counted (ltb 4 (getD lens j 0)))
   where
-    go : (b : Bool) → cond b from 0 ≤ from
-    go true = omega arith
-    go false = zero-le
+    counted : (b : Bool) → cond b (getD starts j 0) 0 ≤ getD starts j 0
+    counted true = omega arith
+    counted false = zero-le
 
 -- the two ends of a gap, as code computes them
 pub lower-in : (hi s from : ℕ) → ltb s from && ltb from hi ≡ true → from ≡ cond (ltb s from) (min hi from) hi
@@ -183,118 +183,3 @@ out-is start len lo hi from to s l h k f a b = go (ltb start lo) refl
             same : (t : Bool) → ltb hi (start + len) ≡ t → ltb (hi - lo) (start - lo + len) ≡ t
             same true u = let w : hi < start + len = ltb-true _ _ u in lt-ltb (hi - lo) (start - lo + len) (omega arith)
             same false u = let w : start + len ≤ hi = ltb-false _ _ u in le-ltb (hi - lo) (start - lo + len) (omega arith)
-
--- ---- places: one turn over place i
-
--- number i of k lies in a run that has room for k
-pub next-fits : (w k n i : ℕ) → w * k ≤ n → i < k → w * i + w ≤ n
-next-fits w k n i h l =
-    let m : w * suc i ≤ w * k = mul-le-mul-left w l in
-    omega (arith, mul-suc w i)
-
-module _ (big : Bool) (a : ℕ) (offsets : List ℕ) (b : ℕ) (counts : List ℕ) (k n : ℕ) where
-  abbrev pub From : ℕ → List Piece
-  From i = fromPlace big a offsets b counts i k
-
-  -- rule 13 at place i, as code tests it
-  abbrev pub Bad : ℕ → Bool
-  Bad i =
-      eqb (num big b counts (b * i)) 0
-      || (ltb (num big a offsets (a * i)) 8 || ltb n (num big a offsets (a * i) + num big b counts (b * i)))
-
-  from-step : (i : ℕ) → i < k → From i ≡ placeAt big a offsets b counts i ∷ From (i + 1)
-  unfolding fromPlace
-  from-step i l = build-step (placeAt big a offsets b counts) i k l
-
-  pub from-start : placesOf big a offsets b counts k ≡ From 0
-  unfolding fromPlace placesOf
-  from-start = ap (build (placeAt big a offsets b counts) 0) (sym (sub-zero k))
-
-  pub from-end : (i : ℕ) → i ≤ k → k ≤ i → From i ≡ []
-  unfolding fromPlace
-  from-end i l m = let e : i ≡ k = omega arith in rw e (build-end (placeAt big a offsets b counts) k)
-
-  pub bad-here : (i : ℕ) → i < k → Bad i ≡ true → rule13 n (From i) ≡ broken i
-  unfolding rule13 firstBad badPiece placeAt
-  bad-here i l h = ap (rule13 n) (from-step i l) ∙ rw h
-
-  pub good-here : (i : ℕ) → i < k → Bad i ≡ false → rule13 n (From i) ≡ rule13 n (From (i + 1))
-  unfolding rule13 firstBad badPiece placeAt
-  good-here i l h = ap (rule13 n) (from-step i l) ∙ rw h
-
-  abbrev Shares : List Part → ℕ → Bool
-  Shares ps i = some (shares (part (num big a offsets (a * i)) (num big b counts (b * i)))) ps
-
-  pub clash-here : (ps : List Part) (i : ℕ) → i < k → Shares ps i ≡ true → rule14 ps (From i) ≡ broken i
-  unfolding rule14 firstBad touches placeAt
-  clash-here ps i l h = ap (rule14 ps) (from-step i l) ∙ rw h
-
-  pub free-here : (ps : List Part) (i : ℕ) → i < k → Shares ps i ≡ false → rule14 ps (From i) ≡ rule14 ps (From (i + 1))
-  unfolding rule14 firstBad touches placeAt
-  free-here ps i l h = ap (rule14 ps) (from-step i l) ∙ rw h
-
-  -- a place that rule 13 lets pass has bytes
-  pub some-bytes : (i : ℕ) → Bad i ≡ false → 0 < num big b counts (b * i)
-  some-bytes i h = pos (num big b counts (b * i)) (eqb-false _ _ (or-false (eqb (num big b counts (b * i)) 0) _ h .0))
-    where
-      pos : (x : ℕ) → (x ≡ 0 → ⊥) → 0 < x
-      pos zero z = absurd (z refl)
-      pos (suc x) z = suc-le-suc zero-le
-
-  -- ---- a place that a search passes by
-
-  -- as code tests it: before the gap, without bytes, or past it
-  abbrev pub Stops : ℕ → ℕ → ℕ → Bool
-  Stops lo hi i =
-      ltb (num big a offsets (a * i)) lo
-      || (eqb (num big b counts (b * i)) 0 || ltb hi (num big a offsets (a * i) + num big b counts (b * i)))
-
-  module _ (lo hi i : ℕ) (passes : Stops lo hi i ≡ false) where
-    starts-in : lo ≤ num big a offsets (a * i)
-    starts-in = ltb-false _ _ (or-false (ltb (num big a offsets (a * i)) lo) _ passes .0)
-
-    rest-in : eqb (num big b counts (b * i)) 0 || ltb hi (num big a offsets (a * i) + num big b counts (b * i)) ≡ false
-    rest-in = or-false (ltb (num big a offsets (a * i)) lo) _ passes .1
-
-    ends-in : num big a offsets (a * i) + num big b counts (b * i) ≤ hi
-    ends-in = ltb-false _ _ (or-false (eqb (num big b counts (b * i)) 0) _ rest-in .1)
-
-    pub passed-13 : 8 ≤ lo → hi ≤ n → Bad i ≡ false
-    passed-13 l h =
-        let s = starts-in in
-        let e = ends-in in
-        or-both _ _ (or-false (eqb (num big b counts (b * i)) 0) _ rest-in .0)
-        (or-both _ _ (le-ltb (num big a offsets (a * i)) 8 (omega arith)) (le-ltb n (num big a offsets (a * i) + num big b counts (b * i)) (omega arith)))
-
-    has-room : lo < hi
-    has-room =
-        let s = starts-in in
-        let e = ends-in in
-        let z : num big b counts (b * i) ≡ 0 → ⊥ = eqb-false _ _ (or-false (eqb (num big b counts (b * i)) 0) _ rest-in .0) in
-        room (num big b counts (b * i)) z e
-      where
-        room : (x : ℕ) → (x ≡ 0 → ⊥) → num big a offsets (a * i) + x ≤ hi → lo < hi
-        room zero z e = absurd (z refl)
-        room (suc x) z e = let s = starts-in in omega arith
-
-    pub passed-14 : (ps : List Part) → (lo < hi → all (clear lo hi) ps ≡ true)
-        → some (shares (part (num big a offsets (a * i)) (num big b counts (b * i)))) ps ≡ false
-    passed-14 ps h = clear-free lo hi (num big a offsets (a * i)) (num big b counts (b * i)) ps starts-in ends-in (h has-room)
-
--- ---- the answers of judge_places, by the outcomes of the two rules
-
-pub answer-13 : (n : ℕ) (ps : List Part) (ss : List Piece) (i : ℕ) → rule13 n ss ≡ broken i → verdict 13 i ≡ placesJudged n ps ss
-unfolding placesJudged first
-answer-13 n ps ss i h = rw h
-
-pub answer-14 : (n : ℕ) (ps : List Part) (ss : List Piece) (i : ℕ) (v : Verdict) → rule14 ps ss ≡ broken i → v ≡ orElse 13 (rule13 n ss) (verdict 14 i) → v ≡ placesJudged n ps ss
-unfolding placesJudged first
-answer-14 n ps ss i v h e = rw h e
-
-pub answer-0 : (n : ℕ) (ps : List Part) (ss : List Piece) → rule13 n ss ≡ kept → rule14 ps ss ≡ kept → verdict 0 0 ≡ placesJudged n ps ss
-unfolding placesJudged first
-answer-0 n ps ss h e = rw (h, e)
-
-pub rules-none : (n : ℕ) (ps : List Part) → (rule13 n [] ≡ kept) × (rule14 ps [] ≡ kept)
-unfolding rule13 rule14 firstBad
-rules-none n ps = (refl, refl)

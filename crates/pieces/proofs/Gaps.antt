@@ -1,19 +1,17 @@
 -- What a gap is good for: a place that lies in it shares no byte with the list, and the gap around a place tells whether the place does. By
 -- induction over the ranges. Assumes nothing.
-use Prim.Native.Nat.{ℕ, zero, suc, _+_, _-_, _*_, _≤_, _<_, min, max, zero-le}
-use mathlib.Core.Path.{_≡_, refl, sym, ap, _∙_}
-use mathlib.Core.Bool.{Bool, true, false, cond, not, _&&_, _||_, or-true, true≢false, false≢true}
+use Prim.Native.Nat.{ℕ, _+_, _≤_, _<_, min, max}
+use mathlib.Core.Path.{_≡_, refl}
+use mathlib.Core.Bool.{Bool, true, false, _||_, or-true}
 use mathlib.Core.Logic.{_⊎_, inl, inr, ⊎-elim}
 use mathlib.Core.List.{List, [], _∷_}
 use native.Mathlib.Omega.{arith}
 use lib.Dec.{ltb, leb, eqb}
-use lib.ListN.{getD}
-use borrow.Author.Tests.{eqb-true, eqb-false, leb-true, leb-false, ltb-true, ltb-false, lt-ltb, le-ltb, le-leb, lt-leb, eq-eqb, ne-eqb}
+use borrow.Author.Tests.{eqb-true, leb-true, ltb-true, ltb-false, lt-ltb, le-ltb, le-leb, eq-eqb}
 use Rattle.paper.specs.Tests.{all, some}
 use Rattle.paper.specs.Pieces.{Part, part, shares}
 use Rattle.paper.proofs.Laws.{and-eq, and-both, or-false}
 use Rattle.pieces.specs.Gaps.{wide, clear, Found}
-use Rattle.pieces.specs.declared.Gap.{Gap}
 
 -- clear by one of three reasons
 clear-empty : (lo hi : ℕ) (p : Part) → p .len ≡ 0 → clear lo hi p ≡ true
@@ -107,7 +105,9 @@ module _ (s n : ℕ) where
         record {
           low = g .low;
           high = let h = g .high in omega arith;
-          clean = λ a. and-both (clear lo (min hi (p .start)) p) _ (clear-behind lo (min hi (p .start)) p (omega arith)) (all-less lo hi lo (min hi (p .start)) ps (omega arith) (omega arith) (g .clean a));
+          clean = λ a.
+              and-both (clear lo (min hi (p .start)) p) _ (clear-behind lo (min hi (p .start)) p (omega arith))
+              (all-less lo hi lo (min hi (p .start)) ps (omega arith) (omega arith) (g .clean a));
           held = λ a l c. rw (g .held a l c) (or-true (shares (part s l) p));
           reach = reach-behind;
         }
@@ -132,7 +132,9 @@ module _ (s n : ℕ) where
         record {
           low = let h = g .low in omega arith;
           high = g .high;
-          clean = λ a. and-both (clear (max lo (p .start + p .len)) hi p) _ (clear-before (max lo (p .start + p .len)) hi p (omega arith)) (all-less lo hi (max lo (p .start + p .len)) hi ps (omega arith) (omega arith) (g .clean (omega arith)));
+          clean = λ a.
+              and-both (clear (max lo (p .start + p .len)) hi p) _ (clear-before (max lo (p .start + p .len)) hi p (omega arith))
+              (all-less lo hi (max lo (p .start + p .len)) hi ps (omega arith) (omega arith) (g .clean (omega arith)));
           held = held-before;
           reach = λ l a c. rw (g .reach l a c) (or-true (shares (part s l) p));
         }

@@ -1,3 +1,4 @@
+-- The laws that the proofs of this crate share. Assumes nothing.
 pub mod Gaps
 pub mod Answers
 pub mod Passing

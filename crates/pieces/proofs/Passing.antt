@@ -1,125 +1,252 @@
--- The pass over the places: what is known before place i, and what each turn makes of it. Assumes nothing.
+-- The pass over the places: what rules 13 and 14 say of the next one, and one law for each turn and each answer of `skip_run`, `after_clash`
+-- and `judge_places`. Assumes nothing.
 use Prim.Native.Nat.{ℕ, zero, suc, _+_, _*_, _≤_, _<_, zero-le, suc-le-suc}
 use mathlib.Core.Path.{_≡_, refl, sym, ap, _∙_}
 use mathlib.Core.Bool.{Bool, true, false, _||_}
-use mathlib.Core.List.{List, []}
-use native.Mathlib.Nat.{lt-irrefl}
+use mathlib.Core.List.{List, [], _∷_}
+use native.Mathlib.Nat.{sub-zero, lt-irrefl, mul-suc, mul-le-mul-left}
 use native.Mathlib.Omega.{arith}
-use lib.Dec.{ltb, eqb}
-use borrow.Author.Tests.{eqb-false, ltb-false}
-use Rattle.paper.specs.Bytes.{num}
-use Rattle.paper.specs.Outcome.{orElse, verdict}
+use lib.Dec.{lit<, ltb, eqb}
+use borrow.Author.Tests.{eqb-false, ltb-false, le-ltb}
+use Rattle.paper.specs.Bytes.{num, build}
+use Rattle.paper.specs.Outcome.{firstBad, orElse, first, verdict}
 use Rattle.paper.specs.Tests.{all, some}
-use Rattle.paper.specs.Pieces.{Part, part, Piece, shares, placesOf, rule13, rule14}
+use Rattle.paper.specs.Pieces.{Part, part, Piece, shares, placeAt, placesOf, badPiece, touches, rule13, rule14}
 use Rattle.paper.specs.declared.Outcome.{Outcome}
+use Rattle.paper.specs.declared.Outcome.the-variants.{Kept as kept, Broken as broken}
 use Rattle.paper.specs.declared.Verdict.{Verdict}
-use Rattle.paper.proofs.Laws.{or-false}
+use Rattle.paper.proofs.Laws.{build-step, or-false, or-both}
+use Rattle.paper.proofs.Loops.{build-end}
 use Rattle.pieces.specs.Gaps.{clear, Found, Skipped, fromPlace, placesJudged}
 use Rattle.pieces.specs.declared.Gap.{Gap}
 use Rattle.pieces.specs.declared.Stop.{Stop}
-use Rattle.pieces.proofs.Answers.{bad-here, good-here, clash-here, free-here, from-start, from-end, rules-none, answer-13, answer-14, answer-0}
+use Rattle.pieces.proofs.Gaps.{clear-free}
 
--- rule 13 at a stop, as code tests it
-abbrev pub badStop : ℕ → Stop → Bool
-badStop n s = eqb (s .len) 0 || (ltb (s .start) 8 || ltb n (s .start + s .len))
+-- number i of k lies in a run that has room for k
+pub next-fits : (w k n i : ℕ) → w * k ≤ n → i < k → w * i + w ≤ n
+next-fits w k n i h l =
+    let m : w * suc i ≤ w * k = mul-le-mul-left w l in
+    omega (arith, mul-suc w i)
 
--- whether a place lies outside the gap around its first byte
-abbrev pub leaves : Stop → Gap → Bool
-leaves s g = ltb (s .start) (g .lo) || ltb (g .hi) (s .start + s .len)
+-- a place that counts its bytes has some
+some-bytes : (x : ℕ) → eqb x 0 ≡ false → 0 < x
+some-bytes zero h = absurd (eqb-false 0 0 h refl)
+some-bytes (suc x) h = suc-le-suc zero-le
 
-module _ (big : Bool) (a : ℕ) (offsets : List ℕ) (b : ℕ) (counts : List ℕ) (k n : ℕ) (ps : List Part) where
+-- ---- the answers of judge_places, by the outcomes of the two rules
+
+module _ (n : ℕ) (ps : List Part) (ss : List Piece) where
+  answer-13 : (i : ℕ) → rule13 n ss ≡ broken i → verdict 13 i ≡ placesJudged n ps ss
+  unfolding placesJudged first
+  answer-13 i h = rw h
+
+  answer-14 : (i : ℕ) (v : Verdict) → rule14 ps ss ≡ broken i → v ≡ orElse 13 (rule13 n ss) (verdict 14 i) → v ≡ placesJudged n ps ss
+  unfolding placesJudged first
+  answer-14 i v h e = rw h e
+
+  answer-0 : rule13 n ss ≡ kept → rule14 ps ss ≡ kept → verdict 0 0 ≡ placesJudged n ps ss
+  unfolding placesJudged first
+  answer-0 h e = rw (h, e)
+
+module _ (big : Bool) (a : ℕ) (offsets : List ℕ) (b : ℕ) (counts : List ℕ) (k : ℕ) where
   abbrev Places : List Piece
   Places = placesOf big a offsets b counts k
 
   abbrev From : ℕ → List Piece
   From i = fromPlace big a offsets b counts i k
 
-  -- the places before i keep both rules, and a place from lo up to hi does
-  pub record Going (i lo hi : ℕ) : Type 0 where
-    pub low : 8 ≤ lo
-    pub room : lo ≤ hi
-    pub high : hi ≤ n
-    pub clean : lo < hi → all (clear lo hi) ps ≡ true
-    pub thirteen : rule13 n Places ≡ rule13 n (From i)
-    pub fourteen : rule14 ps Places ≡ rule14 ps (From i)
+  from-start : Places ≡ From 0
+  unfolding fromPlace placesOf
+  from-start = ap (build (placeAt big a offsets b counts) 0) (sym (sub-zero k))
 
-  pub going-start : 8 ≤ n → Going 0 8 8
-  going-start h =
-      record {
-        low = omega arith;
-        room = omega arith;
-        high = h;
-        clean = λ l. absurd (lt-irrefl 8 l);
-        thirteen = ap (rule13 n) (from-start big a offsets b counts k n);
-        fourteen = ap (rule14 ps) (from-start big a offsets b counts k n);
-      }
+  -- no place is left
+  module _ (i : ℕ) (l : i ≤ k) (m : k ≤ i) where
+    from-end : From i ≡ []
+    unfolding fromPlace
+    from-end = let e : i ≡ k = omega arith in rw e (build-end (placeAt big a offsets b counts) k)
 
-  pub going-end : (i lo hi : ℕ) → Going i lo hi → i ≤ k → k ≤ i → verdict 0 0 ≡ placesJudged n ps Places
-  going-end i lo hi g l m =
-      let e : From i ≡ [] = from-end big a offsets b counts k n i l m in
-      answer-0 n ps Places (g .thirteen ∙ ap (rule13 n) e ∙ rules-none n ps .0) (g .fourteen ∙ ap (rule14 ps) e ∙ rules-none n ps .1)
+    none-13 : (n : ℕ) → rule13 n (From i) ≡ kept
+    unfolding rule13 firstBad
+    none-13 n = ap (rule13 n) from-end
 
-  -- a search stopped at s
-  module _ (i lo hi : ℕ) (g : Going i lo hi) (s : Stop) (sk : Skipped big a offsets b counts k lo hi i s) where
-    on-13 : rule13 n Places ≡ rule13 n (From (s .at))
-    on-13 = g .thirteen ∙ sk .thirteen n (g .low) (g .high)
+    none-14 : (ps : List Part) → rule14 ps (From i) ≡ kept
+    unfolding rule14 firstBad
+    none-14 ps = ap (rule14 ps) from-end
 
-    on-14 : rule14 ps Places ≡ rule14 ps (From (s .at))
-    on-14 = g .fourteen ∙ sk .fourteen ps (g .clean)
+  -- ---- place i, with the offset and the byte count that code fetched
 
-    pub stop-none : k ≤ s .at → verdict 0 0 ≡ placesJudged n ps Places
-    stop-none m =
-        let e : From (s .at) ≡ [] = from-end big a offsets b counts k n (s .at) (sk .high) m in
-        answer-0 n ps Places (on-13 ∙ ap (rule13 n) e ∙ rules-none n ps .0) (on-14 ∙ ap (rule14 ps) e ∙ rules-none n ps .1)
+  module _ (i : ℕ) (l : i < k) (start len : ℕ) (is-start : start ≡ num big a offsets (a * i)) (is-len : len ≡ num big b counts (b * i)) where
+    here : From i ≡ record { index = i; place = part start len } ∷ From (i + 1)
+    unfolding fromPlace placeAt
+    here =
+        build-step (placeAt big a offsets b counts) i k l
+        ∙ sym (λ j. record { index = i; place = part (is-start j) (is-len j) } ∷ From (i + 1))
 
-    module _ (l : s .at < k) where
-      -- the place at s, as it stands in the runs
-      bad-is : eqb (num big b counts (b * s .at)) 0 || (ltb (num big a offsets (a * s .at)) 8 || ltb n (num big a offsets (a * s .at) + num big b counts (b * s .at))) ≡ badStop n s
-      bad-is = sym (λ j. eqb (sk .len l j) 0 || (ltb (sk .start l j) 8 || ltb n (sk .start l j + sk .len l j)))
+    module _ (n : ℕ) where
+      bad-here : eqb len 0 || (ltb start 8 || ltb n (start + len)) ≡ true → rule13 n (From i) ≡ broken i
+      unfolding rule13 firstBad badPiece
+      bad-here h = ap (rule13 n) here ∙ rw h
 
-      shares-is : some (shares (part (num big a offsets (a * s .at)) (num big b counts (b * s .at)))) ps ≡ some (shares (part (s .start) (s .len))) ps
-      shares-is = sym (λ j. some (shares (part (sk .start l j) (sk .len l j))) ps)
+      good-here : eqb len 0 || (ltb start 8 || ltb n (start + len)) ≡ false → rule13 n (From i) ≡ rule13 n (From (i + 1))
+      unfolding rule13 firstBad badPiece
+      good-here h = ap (rule13 n) here ∙ rw h
 
-      pub stop-bad : badStop n s ≡ true → verdict 13 (s .at) ≡ placesJudged n ps Places
-      stop-bad h = answer-13 n ps Places (s .at) (on-13 ∙ bad-here big a offsets b counts k n (s .at) l (bad-is ∙ h))
+    module _ (ps : List Part) where
+      clash-here : some (shares (part start len)) ps ≡ true → rule14 ps (From i) ≡ broken i
+      unfolding rule14 firstBad touches
+      clash-here h = ap (rule14 ps) here ∙ rw h
 
-      module _ (ok : badStop n s ≡ false) where
-        pub has-bytes : 0 < s .len
-        has-bytes = pos (s .len) (eqb-false _ _ (or-false (eqb (s .len) 0) _ ok .0))
+      free-here : some (shares (part start len)) ps ≡ false → rule14 ps (From i) ≡ rule14 ps (From (i + 1))
+      unfolding rule14 firstBad touches
+      free-here h = ap (rule14 ps) here ∙ rw h
+
+  -- ---- skip_run: the places before i have bytes and lie from lo up to hi
+
+  module _ (lo hi from : ℕ) where
+    pub record Passed (i : ℕ) : Type 0 where
+      pub thirteen : (n : ℕ) → 8 ≤ lo → hi ≤ n → rule13 n (From from) ≡ rule13 n (From i)
+      pub fourteen : (ps : List Part) → (lo < hi → all (clear lo hi) ps ≡ true) → rule14 ps (From from) ≡ rule14 ps (From i)
+
+    pub passed-start : Passed from
+    passed-start = record { thirteen = λ n l h. refl; fourteen = λ ps h. refl }
+
+    module _ (i : ℕ) (low : from ≤ i) (high : i ≤ k) (p : Passed i) where
+      pub passed-end : k ≤ i → Skipped big a offsets b counts k lo hi from (record { at = k; start = 0; len = 0 })
+      passed-end m =
+          let e : i ≡ k = omega arith in
+          record {
+            low = omega arith;
+            high = omega arith;
+            start = λ l. absurd (lt-irrefl k l);
+            len = λ l. absurd (lt-irrefl k l);
+            small = (lit< tt, lit< tt);
+            thirteen = λ n l h. p .thirteen n l h ∙ ap (λ (j : ℕ). rule13 n (From j)) e;
+            fourteen = λ ps h. p .fourteen ps h ∙ ap (λ (j : ℕ). rule14 ps (From j)) e;
+          }
+
+      module _ (start len : ℕ) (is-start : start ≡ num big a offsets (a * i)) (is-len : len ≡ num big b counts (b * i)) where
+        pub passed-stop : start < 4294967296 → len < 4294967296 → Skipped big a offsets b counts k lo hi from (record { at = i; start = start; len = len })
+        passed-stop x y =
+            record {
+              low = low;
+              high = high;
+              start = λ l. is-start;
+              len = λ l. is-len;
+              small = (x, y);
+              thirteen = p .thirteen;
+              fourteen = p .fourteen;
+            }
+
+        pub passed-turn : i < k → (out : Bool) → out ≡ ltb start lo || (eqb len 0 || ltb hi (start + len)) → out ≡ false → Passed (i + 1)
+        passed-turn l out is-out t =
+            record {
+              thirteen = λ n x y. p .thirteen n x y ∙ good-here i l start len is-start is-len n
+                  (or-both _ _ (rest .0) (or-both _ _ (le-ltb start 8 (omega (arith, before))) (le-ltb n (start + len) (omega (arith, behind)))));
+              fourteen = λ ps h. p .fourteen ps h ∙ free-here i l start len is-start is-len ps
+                  (clear-free lo hi start len ps before behind (h (omega (arith, before, behind, some-bytes len (rest .0)))));
+            }
           where
-            pos : (x : ℕ) → (x ≡ 0 → ⊥) → 0 < x
-            pos zero z = absurd (z refl)
-            pos (suc x) z = suc-le-suc zero-le
+            parts : (ltb start lo ≡ false) × (eqb len 0 || ltb hi (start + len) ≡ false)
+            parts = or-false (ltb start lo) _ (sym is-out ∙ t)
 
-        rest : ltb (s .start) 8 || ltb n (s .start + s .len) ≡ false
-        rest = or-false (eqb (s .len) 0) _ ok .1
+            rest : (eqb len 0 ≡ false) × (ltb hi (start + len) ≡ false)
+            rest = or-false (eqb len 0) _ (parts .1)
 
-        pub starts-low : 8 ≤ s .start
-        starts-low = ltb-false _ _ (or-false (ltb (s .start) 8) _ rest .0)
+            before : lo ≤ start
+            before = ltb-false _ _ (parts .0)
 
-        pub ends-in : s .start + s .len ≤ n
-        ends-in = ltb-false _ _ (or-false (ltb (s .start) 8) _ rest .1)
+            behind : start + len ≤ hi
+            behind = ltb-false _ _ (rest .1)
 
-        on-next : rule13 n Places ≡ rule13 n (From (s .at + 1))
-        on-next = on-13 ∙ good-here big a offsets b counts k n (s .at) l (bad-is ∙ ok)
+  module _ (n : ℕ) where
+    -- ---- after_clash: the places before i keep rule 13
 
-        module _ (h : Gap) (f : Found (s .start) n ps h) where
-          pub stop-clash : leaves s h ≡ true → (v : Verdict) → v ≡ orElse 13 (rule13 n (From (s .at + 1))) (verdict 14 (s .at)) → v ≡ placesJudged n ps Places
-          stop-clash t v e =
-              answer-14 n ps Places (s .at) v
-              (on-14 ∙ clash-here big a offsets b counts k n ps (s .at) l (shares-is ∙ f .clash (s .len) has-bytes ends-in t))
-              (e ∙ sym (ap (λ (x : Outcome). orElse 13 x (verdict 14 (s .at))) on-next))
+    module _ (clash from i : ℕ) (on : rule13 n (From from) ≡ rule13 n (From i)) where
+      abbrev Answer : Outcome → Verdict
+      Answer o = orElse 13 o (verdict 14 clash)
 
-          between : h .lo ≤ s .start → s .start + s .len ≤ h .hi → h .lo ≤ h .hi
-          between x y = omega arith
+      pub later-none : i ≤ k → k ≤ i → verdict 14 clash ≡ Answer (rule13 n (From from))
+      later-none l m = sym (ap Answer (on ∙ none-13 i l m n))
 
-          pub stop-free : leaves s h ≡ false → Going (s .at + 1) (h .lo) (h .hi)
-          stop-free t =
-              record {
-                low = f .low;
-                room = between (ltb-false _ _ (or-false (ltb (s .start) (h .lo)) _ t .0)) (ltb-false _ _ (or-false (ltb (s .start) (h .lo)) _ t .1));
-                high = f .high;
-                clean = λ l. f .clean (or-false (ltb (s .start) (h .lo)) _ t .0);
-                thirteen = on-next;
-                fourteen = on-14 ∙ free-here big a offsets b counts k n ps (s .at) l (shares-is ∙ f .free (s .len) t);
-              }
+      module _ (l : i < k) (start len : ℕ) (is-start : start ≡ num big a offsets (a * i)) (is-len : len ≡ num big b counts (b * i)) (bad : Bool)
+          (is-bad : bad ≡ eqb len 0 || (ltb start 8 || ltb n (start + len))) where
+        pub later-bad : bad ≡ true → verdict 13 i ≡ Answer (rule13 n (From from))
+        later-bad t = sym (ap Answer (on ∙ bad-here i l start len is-start is-len n (sym is-bad ∙ t)))
+
+        pub later-good : bad ≡ false → rule13 n (From from) ≡ rule13 n (From (i + 1))
+        later-good t = on ∙ good-here i l start len is-start is-len n (sym is-bad ∙ t)
+
+    -- ---- judge_places
+
+    module _ (ps : List Part) where
+      -- the places before i keep both rules, and a place from lo up to hi does
+      pub record Going (i lo hi : ℕ) : Type 0 where
+        pub low : 8 ≤ lo
+        pub room : lo ≤ hi
+        pub high : hi ≤ n
+        pub clean : lo < hi → all (clear lo hi) ps ≡ true
+        pub thirteen : rule13 n Places ≡ rule13 n (From i)
+        pub fourteen : rule14 ps Places ≡ rule14 ps (From i)
+
+      pub going-start : 8 ≤ n → Going 0 8 8
+      going-start h =
+          record {
+            low = omega arith;
+            room = omega arith;
+            high = h;
+            clean = λ l. absurd (lt-irrefl 8 l);
+            thirteen = ap (rule13 n) from-start;
+            fourteen = ap (rule14 ps) from-start;
+          }
+
+      module _ (i lo hi : ℕ) (g : Going i lo hi) where
+        pub going-end : i ≤ k → k ≤ i → verdict 0 0 ≡ placesJudged n ps Places
+        going-end l m = answer-0 n ps Places (g .thirteen ∙ none-13 i l m n) (g .fourteen ∙ none-14 i l m ps)
+
+        -- a search stopped at s
+        module _ (s : Stop) (sk : Skipped big a offsets b counts k lo hi i s) where
+          on-13 : rule13 n Places ≡ rule13 n (From (s .at))
+          on-13 = g .thirteen ∙ sk .thirteen n (g .low) (g .high)
+
+          on-14 : rule14 ps Places ≡ rule14 ps (From (s .at))
+          on-14 = g .fourteen ∙ sk .fourteen ps (g .clean)
+
+          pub stop-none : k ≤ s .at → verdict 0 0 ≡ placesJudged n ps Places
+          stop-none m = answer-0 n ps Places (on-13 ∙ none-13 (s .at) (sk .high) m n) (on-14 ∙ none-14 (s .at) (sk .high) m ps)
+
+          module _ (l : s .at < k) (bad : Bool) (is-bad : bad ≡ eqb (s .len) 0 || (ltb (s .start) 8 || ltb n (s .start + s .len))) where
+            pub stop-bad : bad ≡ true → verdict 13 (s .at) ≡ placesJudged n ps Places
+            stop-bad t = answer-13 n ps Places (s .at) (on-13 ∙ bad-here (s .at) l (s .start) (s .len) (sk .start l) (sk .len l) n (sym is-bad ∙ t))
+
+            module _ (ok : bad ≡ false) where
+              rest : (ltb (s .start) 8 ≡ false) × (ltb n (s .start + s .len) ≡ false)
+              rest = or-false (ltb (s .start) 8) _ (or-false (eqb (s .len) 0) _ (sym is-bad ∙ ok) .1)
+
+              pub starts-low : 8 ≤ s .start
+              starts-low = ltb-false _ _ (rest .0)
+
+              on-next : rule13 n Places ≡ rule13 n (From (s .at + 1))
+              on-next = on-13 ∙ good-here (s .at) l (s .start) (s .len) (sk .start l) (sk .len l) n (sym is-bad ∙ ok)
+
+              module _ (h : Gap) (f : Found (s .start) n ps h) where
+                pub stop-clash : ltb (s .start) (h .lo) || ltb (h .hi) (s .start + s .len) ≡ true → (v : Verdict)
+                    → v ≡ orElse 13 (rule13 n (From (s .at + 1))) (verdict 14 (s .at)) → v ≡ placesJudged n ps Places
+                stop-clash t v e =
+                    let some-len = some-bytes (s .len) (or-false (eqb (s .len) 0) _ (sym is-bad ∙ ok) .0) in
+                    answer-14 n ps Places (s .at) v
+                    (on-14 ∙ clash-here (s .at) l (s .start) (s .len) (sk .start l) (sk .len l) ps (f .clash (s .len) some-len (ltb-false _ _ (rest .1)) t))
+                    (e ∙ sym (ap (λ (x : Outcome). orElse 13 x (verdict 14 (s .at))) on-next))
+
+                pub stop-free : ltb (s .start) (h .lo) || ltb (h .hi) (s .start + s .len) ≡ false → Going (s .at + 1) (h .lo) (h .hi)
+                stop-free t =
+                    record {
+                      low = f .low;
+                      room = omega (arith, ltb-false (s .start) (h .lo) (inside .0), ltb-false (h .hi) (s .start + s .len) (inside .1));
+                      high = f .high;
+                      clean = λ l. f .clean (inside .0);
+                      thirteen = on-next;
+                      fourteen = on-14 ∙ free-here (s .at) l (s .start) (s .len) (sk .start l) (sk .len l) ps (f .free (s .len) t);
+                    }
+                  where
+                    inside : (ltb (s .start) (h .lo) ≡ false) × (ltb (h .hi) (s .start + s .len) ≡ false)
+                    inside = or-false (ltb (s .start) (h .lo)) _ t

@@ -7,80 +7,71 @@ use Rattle.block.proofs.put_block.Tie as tie
 
 put-four-requires : tie.Need-put-four-requires
 put-four-requires c κs =
-    let a = c .before .before .before .before .before .args in
-    let r = c .before .before .before .before .before .pre in
-    header-room (a .big) (a .directory .now) (a .doubles .now) (a .characters .now) (a .count) (r .sound) (a .out .now) (r .fits)
+    let s = c .before .before .before .before .before in
+    header-room _ _ _ _ _ (s .pre .sound) (s .args .out .now) (s .pre .fits)
 
 put-entries-requires : tie.Need-put-entries-requires
 put-entries-requires c κs =
-    let a = c .before .before .before .before .before .before .before .before .before .args in
-    let r = c .before .before .before .before .before .before .before .before .before .pre in (
-      few (a .big) (a .directory .now) (a .doubles .now) (a .characters .now) (a .count) (r .sound),
-      whole (a .big) (a .directory .now) (a .doubles .now) (a .characters .now) (a .count) (r .sound),
-      entries-room (a .big) (a .directory .now) (a .doubles .now) (a .characters .now) (a .count) (r .sound) (a .out .now) (r .fits) _
-          (c .before .before .before .put-four .ensures),
-    )
+    let f = c .before .before .before in
+    let s = f .before .before .before .before .before .before in
+    (few _ _ _ _ _ (s .pre .sound), whole _ _ _ _ _ (s .pre .sound), entries-room _ _ _ _ _ (s .pre .sound) (s .args .out .now) (s .pre .fits) _ (f .put-four .ensures))
 
 mul-put-values : tie.Need-mul-put-values
 mul-put-values c =
-    let a = c .before .before .before .before .before .before .before .before .before .before .before .before .before .args in
-    let r = c .before .before .before .before .before .before .before .before .before .before .before .before .before .pre in
-    omega (arith, few (a .big) (a .directory .now) (a .doubles .now) (a .characters .now) (a .count) (r .sound))
+    let s = c .before .before .before .before .before .before .before .before .before .before .before .before .before in
+    omega (arith, few _ _ _ _ _ (s .pre .sound))
 
 add-put-values : tie.Need-add-put-values
 add-put-values c =
-    let a = c .before .before .before .before .before .before .before .before .before .before .before .before .before .args in
-    let r = c .before .before .before .before .before .before .before .before .before .before .before .before .before .pre in
-    omega (arith, few (a .big) (a .directory .now) (a .doubles .now) (a .characters .now) (a .count) (r .sound))
+    let s = c .before .before .before .before .before .before .before .before .before .before .before .before .before in
+    omega (arith, few _ _ _ _ _ (s .pre .sound))
 
 put-values-requires : tie.Need-put-values-requires
 put-values-requires c κs =
-    let a = c .before .before .before .before .before .before .before .before .before .before .before .before .before .args in
-    let r = c .before .before .before .before .before .before .before .before .before .before .before .before .before .pre in
-    shorts-asked (a .big) (a .directory .now) (a .doubles .now) (a .characters .now) (a .count) (r .sound) (a .out .now) (r .fits) _
-    (c .before .before .before .before .before .before .before .put-four .ensures) _ (c .before .before .before .put-entries .ensures)
+    let e = c .before .before .before in
+    let f = e .before .before .before .before in
+    let s = f .before .before .before .before .before .before in
+    shorts-asked _ _ _ _ _ (s .pre .sound) (s .args .out .now) (s .pre .fits) _ (f .put-four .ensures) _ (e .put-entries .ensures)
 
 put-values-requires-2 : tie.Need-put-values-requires-2
 put-values-requires-2 c κs =
-    let a = c .before .before .before .before .before .before .before .before .before .before .before .before .before .before .before .before .before .args in
-    let r = c .before .before .before .before .before .before .before .before .before .before .before .before .before .before .before .before .before .pre in
-    doubles-asked (a .big) (a .directory .now) (a .doubles .now) (a .characters .now) (a .count) (r .sound) (a .out .now) (r .fits) _
-    (c .before .before .before .before .before .before .before .before .before .before .before .put-four .ensures) _
-    (c .before .before .before .before .before .before .before .put-entries .ensures) _ (c .before .before .before .put-values .ensures) (a .d)
-    (r .directory)
+    let v = c .before .before .before in
+    let e = v .before .before .before .before in
+    let f = e .before .before .before .before in
+    let s = f .before .before .before .before .before .before in
+    doubles-asked _ _ _ _ _ (s .pre .sound) (s .args .out .now) (s .pre .fits) _ (f .put-four .ensures) _ (e .put-entries .ensures) _
+    (v .put-values .ensures) (s .args .d) (s .pre .directory)
 
 add-put-values-2 : tie.Need-add-put-values-2
 add-put-values-2 c =
-    let a = c .before .before .before .before .before .before .before .before .before .before .before .before .before .before .before .before .before .before .before .before .before .args in
-    let r = c .before .before .before .before .before .before .before .before .before .before .before .before .before .before .before .before .before .before .before .before .before .pre in
-    let h = doubles-end (a .big) (a .directory .now) (a .doubles .now) (a .characters .now) (a .count) (r .sound) (a .out .now) (r .fits) (a .d) (a .x) (r .directory) (r .doubles) in
+    let s = c .before .before .before .before .before .before .before .before .before .before .before .before .before .before .before .before .before .before .before .before .before in
     omega (
       arith,
-      c .before .before .before .before .before .before .before .before .before .before .before .before .before .before .before .before .before .before .before .before .before .good .1 .1 .1 .1 .1 .1 .1 .0,
+      doubles-end _ _ _ _ _ (s .pre .sound) (s .args .out .now) (s .pre .fits) (s .args .d) (s .args .x) (s .pre .directory) (s .pre .doubles),
+      s .good .1 .1 .1 .1 .1 .1 .1 .0,
     )
 
 put-values-requires-3 : tie.Need-put-values-requires-3
 put-values-requires-3 c κs =
-    let a = c .before .before .before .before .before .before .before .before .before .before .before .before .before .before .before .before .before .before .before .before .before .args in
-    let r = c .before .before .before .before .before .before .before .before .before .before .before .before .before .before .before .before .before .before .before .before .before .pre in
-    characters-asked (a .big) (a .directory .now) (a .doubles .now) (a .characters .now) (a .count) (r .sound) (a .out .now) (r .fits) _
-    (c .before .before .before .before .before .before .before .before .before .before .before .before .before .before .before .put-four .ensures) _
-    (c .before .before .before .before .before .before .before .before .before .before .before .put-entries .ensures) _
-    (c .before .before .before .before .before .before .before .put-values .ensures) (a .d) (r .directory) _
-    (c .before .before .before .put-values2 .ensures) (a .x) (r .doubles)
+    let v = c .before .before .before .before .before .before .before in
+    let e = v .before .before .before .before in
+    let f = e .before .before .before .before in
+    let s = f .before .before .before .before .before .before in
+    characters-asked _ _ _ _ _ (s .pre .sound) (s .args .out .now) (s .pre .fits) _ (f .put-four .ensures) _ (e .put-entries .ensures) _
+    (v .put-values .ensures) (s .args .d) (s .pre .directory) _ (c .before .before .before .put-values2 .ensures) (s .args .x) (s .pre .doubles)
 
 same-length : tie.Need-same-length
 same-length c = search needs
 
 returns : tie.Need-returns
 returns c =
-    let a = c .before .before .before .before .before .before .before .before .before .before .before .before .before .before .before .before .before .before .before .before .before .before .before .before .args in
-    let r = c .before .before .before .before .before .before .before .before .before .before .before .before .before .before .before .before .before .before .before .before .before .before .before .before .pre in
-    all-laid (a .big) (a .directory .now) (a .doubles .now) (a .characters .now) (a .count) (r .sound) (a .out .now) (r .fits) _
-    (c .before .before .before .before .before .before .before .before .before .before .before .before .before .before .before .before .before .before .put-four .ensures)
-    _ (c .before .before .before .before .before .before .before .before .before .before .before .before .before .before .put-entries .ensures) _
-    (c .before .before .before .before .before .before .before .before .before .before .put-values .ensures) (a .d) (r .directory) _
-    (c .before .before .before .before .before .before .put-values2 .ensures) (a .x) (r .doubles) _ (c .before .before .put-values3 .ensures)
+    let v = c .before .before .before .before .before .before .before .before .before .before in
+    let e = v .before .before .before .before in
+    let f = e .before .before .before .before in
+    let s = f .before .before .before .before .before .before in
+    all-laid _ _ _ _ _ (s .pre .sound) (s .args .out .now) (s .pre .fits) _ (f .put-four .ensures) _ (e .put-entries .ensures) _
+    (v .put-values .ensures) (s .args .d) (s .pre .directory) _ (c .before .before .before .before .before .before .put-values2 .ensures) (s .args .x)
+    (s .pre .doubles) _ (c .before .before .put-values3 .ensures)
 
 pub put-block-spec : {M : Type 1} → statement M
 put-block-spec =

@@ -1,6 +1,6 @@
 -- `judge_scaled` meets its contract: each answer is a law of `Answers`. Assumes nothing.
 use borrow.Author.Needs.{needs}
-use Rattle.ground.proofs.Answers.{scale-broken, tiepoint-broken, both-kept, scaled-kept}
+use Rattle.ground.proofs.Answers.{scale-broken, tiepoint-broken, turned, both-finite, scaled-kept}
 use Rattle.ground.proofs.judge_scaled.Statement.{statement}
 use Rattle.ground.proofs.judge_scaled.Tie as tie
 
@@ -32,7 +32,10 @@ returns-2 : tie.Need-returns-2
 returns-2 c = search (needs, tiepoint-broken)
 
 scaled-of-requires : tie.Need-scaled-of-requires
-scaled-of-requires c κs = both-kept _ _ _ _ _ _ (c .before .before .before .before .before .scale-kept .ensures) (c .before .before .before .before .if1 .left) (c .before .before .finite-triple .ensures) (c .before .finite-triple2 .ensures) (c .if2 .left)
+scaled-of-requires c κs = (
+  search (needs, turned),
+  both-finite _ _ _ _ (c .before .before .finite-triple .ensures) (c .before .finite-triple2 .ensures) (c .if2 .left),
+)
 
 placed-requires : tie.Need-placed-requires
 placed-requires c κs = search needs

@@ -1,6 +1,6 @@
 -- `matrix_kept` meets its contract: each answer is a law of `Answers`. Assumes nothing.
 use borrow.Author.Needs.{needs}
-use Rattle.ground.proofs.Answers.{matrix-no, rows-kept, matrix-yes}
+use Rattle.ground.proofs.Answers.{matrix-no, first-kept, second-kept, fourth-kept, matrix-yes}
 use Rattle.ground.proofs.matrix_kept.Statement.{statement}
 use Rattle.ground.proofs.matrix_kept.Tie as tie
 
@@ -20,7 +20,7 @@ returns : tie.Need-returns
 returns c = search (needs, matrix-no)
 
 matrix-spans-requires : tie.Need-matrix-spans-requires
-matrix-spans-requires c κs = rows-kept _ _ _ _ _ (c .before .before .before .before .finite-quad .ensures) (c .before .before .before .finite-quad2 .ensures) (c .before .before .finite-quad3 .ensures) (c .before .finite-quad4 .ensures) (c .if1 .left)
+matrix-spans-requires c κs = search (needs, first-kept, second-kept, fourth-kept)
 
 returns-2 : tie.Need-returns-2
 returns-2 c = search (needs, matrix-yes)

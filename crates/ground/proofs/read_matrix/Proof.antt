@@ -1,6 +1,6 @@
 -- `read_matrix` meets its contract: each of the sixteen numbers is what its call ensures. Assumes nothing.
 use borrow.Author.Needs.{needs}
-use Rattle.ground.specs.Steps.{quadAt, matrixOf}
+use Rattle.ground.proofs.Runs.{rows-are, quad-is}
 use Rattle.ground.proofs.read_matrix.Statement.{statement}
 use Rattle.ground.proofs.read_matrix.Tie as tie
 
@@ -53,8 +53,7 @@ bits-requires-16 : tie.Need-bits-requires-16
 bits-requires-16 c κs = search needs
 
 returns : tie.Need-returns
-unfolding quadAt matrixOf
-returns c = rw (c .before .before .before .before .before .before .before .before .before .before .before .before .before .before .before .bits .ensures, c .before .before .before .before .before .before .before .before .before .before .before .before .before .before .bits2 .ensures, c .before .before .before .before .before .before .before .before .before .before .before .before .before .bits3 .ensures, c .before .before .before .before .before .before .before .before .before .before .before .before .bits4 .ensures, c .before .before .before .before .before .before .before .before .before .before .before .bits5 .ensures, c .before .before .before .before .before .before .before .before .before .before .bits6 .ensures, c .before .before .before .before .before .before .before .before .before .bits7 .ensures, c .before .before .before .before .before .before .before .before .bits8 .ensures, c .before .before .before .before .before .before .before .bits9 .ensures, c .before .before .before .before .before .before .bits10 .ensures, c .before .before .before .before .before .bits11 .ensures, c .before .before .before .before .bits12 .ensures, c .before .before .before .bits13 .ensures, c .before .before .bits14 .ensures, c .before .bits15 .ensures, c .bits16 .ensures)
+returns c = search (needs, rows-are, quad-is)
 
 pub read-matrix-spec : {M : Type 1} → statement M
 read-matrix-spec =

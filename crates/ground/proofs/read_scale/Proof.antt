@@ -1,6 +1,6 @@
 -- `read_scale` meets its contract: each of the three numbers is what its call ensures. Assumes nothing.
 use borrow.Author.Needs.{needs}
-use Rattle.ground.specs.Steps.{tripleAt}
+use Rattle.ground.proofs.Runs.{triple-is}
 use Rattle.ground.proofs.read_scale.Statement.{statement}
 use Rattle.ground.proofs.read_scale.Tie as tie
 
@@ -14,8 +14,7 @@ bits-requires-3 : tie.Need-bits-requires-3
 bits-requires-3 c κs = search needs
 
 returns : tie.Need-returns
-unfolding tripleAt
-returns c = rw (c .before .before .bits .ensures, c .before .bits2 .ensures, c .bits3 .ensures)
+returns c = search (needs, triple-is)
 
 pub read-scale-spec : {M : Type 1} → statement M
 read-scale-spec = tie.close (tie.spec bits-requires bits-requires-2 bits-requires-3 returns)

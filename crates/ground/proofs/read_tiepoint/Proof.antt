@@ -1,6 +1,6 @@
 -- `read_tiepoint` meets its contract: each of the six numbers is what its call ensures. Assumes nothing.
 use borrow.Author.Needs.{needs}
-use Rattle.ground.specs.Steps.{tripleAt, tiepointOf}
+use Rattle.ground.proofs.Runs.{halves-are, triple-is}
 use Rattle.ground.proofs.read_tiepoint.Statement.{statement}
 use Rattle.ground.proofs.read_tiepoint.Tie as tie
 
@@ -23,8 +23,7 @@ bits-requires-6 : tie.Need-bits-requires-6
 bits-requires-6 c κs = search needs
 
 returns : tie.Need-returns
-unfolding tripleAt tiepointOf
-returns c = rw (c .before .before .before .before .before .bits .ensures, c .before .before .before .before .bits2 .ensures, c .before .before .before .bits3 .ensures, c .before .before .bits4 .ensures, c .before .bits5 .ensures, c .bits6 .ensures)
+returns c = search (needs, halves-are, triple-is)
 
 pub read-tiepoint-spec : {M : Type 1} → statement M
 read-tiepoint-spec =

@@ -1,43 +1,36 @@
+-- `little2`: 2 bytes of which the first byte counts least. Assumes nothing.
 use native.Mathlib.Omega.{arith}
-use Rattle.order.proofs.Sums.{spelled-little}
+use mathlib.Core.Bool.{false}
+use Rattle.order.proofs.Sums.{spelled}
 use borrow.Author.Needs.{needs}
 use Rattle.order.proofs.little2.Statement.{statement}
 use Rattle.order.proofs.little2.Tie as tie
-use Rattle.order.proofs.little2.Reads as reads
-use Rattle.order.proofs.little2.Lts as lts
-use Rattle.order.proofs.wide.Reads as wide-reads
 
--- src/lib.rt:25:10
 shared-slice-read-wide : tie.Need-shared-slice-read-wide
 shared-slice-read-wide c = search needs
 
--- src/lib.rt:25:5
 wide-requires : tie.Need-wide-requires
 wide-requires c κs = search needs
 
--- src/lib.rt:25:26
 add-wide : tie.Need-add-wide
 add-wide c = search needs
 
--- src/lib.rt:25:24
 shared-slice-read-wide-2 : tie.Need-shared-slice-read-wide-2
 shared-slice-read-wide-2 c = search needs
 
--- src/lib.rt:25:19
 wide-requires-2 : tie.Need-wide-requires-2
 wide-requires-2 c κs = search needs
 
--- src/lib.rt:25:19
 mul-result : tie.Need-mul-result
 mul-result c = search needs
 
--- src/lib.rt:25:5
 add-result : tie.Need-add-result
 add-result c = search needs
 
--- src/lib.rt:21:1
 returns : tie.Need-returns
-returns c = omega (arith, spelled-little (c .before .before .before .before .before .args .s .now) (c .before .before .before .before .before .args .at) 1)
+returns c =
+    let a = c .before .before .before .before .before .args in
+    omega (arith, spelled (a .s .now) (a .at) false 1)
 
 pub little2-spec : {M : Type 1} → statement M
 little2-spec =

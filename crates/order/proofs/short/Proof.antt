@@ -1,24 +1,17 @@
+-- `short`: the order decides. Assumes nothing.
 use borrow.Author.Needs.{needs}
 use Rattle.order.proofs.short.Statement.{statement}
 use Rattle.order.proofs.short.Tie as tie
-use Rattle.order.proofs.short.Reads as reads
-use Rattle.order.proofs.short.Lts as lts
-use Rattle.order.proofs.big2.Reads as big2-reads
-use Rattle.order.proofs.little2.Reads as little2-reads
 
--- src/lib.rt:82:14
 big2-requires : tie.Need-big2-requires
 big2-requires c κs = search needs
 
--- src/lib.rt:82:35
 little2-requires : tie.Need-little2-requires
 little2-requires c κs = search needs
 
--- src/lib.rt:78:1
 returns : tie.Need-returns
 returns c = rw (c .before .if1 .taken) (c .big2 .ensures)
 
--- src/lib.rt:78:1
 returns-2 : tie.Need-returns-2
 returns-2 c = rw (c .before .if1 .left) (c .little2 .ensures)
 

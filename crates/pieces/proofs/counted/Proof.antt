@@ -1,14 +1,11 @@
+-- `counted`: the test of the length decides. Assumes nothing.
 use borrow.Author.Tests.{lt-ltb, le-ltb}
 use Rattle.pieces.proofs.counted.Statement.{statement}
 use Rattle.pieces.proofs.counted.Tie as tie
-use Rattle.pieces.proofs.counted.Reads as reads
-use Rattle.pieces.proofs.counted.Lts as lts
 
--- src/lib.rt:36:1
 returns : tie.Need-returns
 returns c = rw (lt-ltb 4 (c .before .args .len) (c .if1 .taken))
 
--- src/lib.rt:36:1
 returns-2 : tie.Need-returns-2
 returns-2 c = rw (le-ltb 4 (c .before .args .len) (c .if1 .left))
 

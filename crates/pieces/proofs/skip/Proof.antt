@@ -1,25 +1,19 @@
+-- `skip`: both of its calls are the one of `skip_run`, the first where both tests for LONGs hold. Assumes nothing.
 use borrow.Author.Needs.{needs}
 use Rattle.pieces.proofs.skip.Statement.{statement}
 use Rattle.pieces.proofs.skip.Tie as tie
-use Rattle.pieces.proofs.skip.Reads as reads
-use Rattle.pieces.proofs.skip.Lts as lts
-use Rattle.pieces.proofs.skip_run.Reads as skip-run-reads
 
--- src/lib.rt:139:13
 skip-run-requires : tie.Need-skip-run-requires
-skip-run-requires c κs = let a = rw (c .before .if1 .taken) at (c .before .before .before .before .pre .2) in
-    let b = rw (c .if2 .taken) at (c .before .before .before .before .pre .3) in
-    (c .before .before .before .before .pre .0, c .before .before .before .before .pre .1, a, b, (c .before .before .before .before .pre) .4, (c .before .before .before .before .pre) .5)
+skip-run-requires c κs =
+    let p = c .before .before .before .before .pre in
+    (p .0, p .1, rw (c .before .if1 .taken) at (p .2), rw (c .if2 .taken) at (p .3), p .4, p .5)
 
--- src/lib.rt:139:13
 returns : tie.Need-returns
 returns c = rw (c .before .before .if1 .taken, c .before .if2 .taken) (c .skip-run .ensures)
 
--- src/lib.rt:142:5
 skip-run-requires-2 : tie.Need-skip-run-requires-2
 skip-run-requires-2 c κs = search needs
 
--- src/lib.rt:123:1
 returns-2 : tie.Need-returns-2
 returns-2 c = search needs
 
