@@ -6,22 +6,22 @@ use std::io::{Read, Write};
 use std::path::Path;
 use std::process::{Command, Stdio};
 
-/// The path of the host's runner; it must be newer than the library.
+/// The path of the host's runner; the host must hold the library that is there,
+/// byte for byte: `host/build` keeps a copy of the one it linked.
 fn runner() -> std::path::PathBuf {
     let root = Path::new(env!("CARGO_MANIFEST_DIR")).join("..");
-    let archive = root.join("target/staticlib/libpetalbuzz.a");
-    let (host, run) = (root.join("out/host"), root.join("out/run-host"));
-    let written = |path: &Path| path.metadata().and_then(|about| about.modified()).ok();
-    let Some(library) = written(&archive) else {
+    let read = |path: &str| std::fs::read(root.join(path)).ok();
+    let Some(library) = read("target/staticlib/libpetalbuzz.a") else {
         panic!("target/staticlib/libpetalbuzz.a is missing: run 'rt staticlib petalbuzz'")
     };
     if cfg!(target_arch = "x86_64") {
         panic!("the static library came after this was built: run cargo again");
     }
-    let Some(built) = written(&host).filter(|_| run.is_file()) else {
-        panic!("out/host or out/run-host is missing: run 'host/build'")
+    let run = root.join("out/run-host");
+    let Some(linked) = read("out/host.a").filter(|_| run.is_file()) else {
+        panic!("out/host.a or out/run-host is missing: run 'host/build'")
     };
-    assert!(library <= built, "out/host is older than the static library: run 'host/build'");
+    assert!(library == linked, "out/host holds another library: run 'host/build'");
     run
 }
 
