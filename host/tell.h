@@ -11,6 +11,11 @@ struct told {
     const char *wrong; /* null: it is read */
 };
 
+static struct told told_of(const struct whole *file, struct found *f) {
+    const char *wrong = look(file, f);
+    return (struct told){{f->ground.verdict, f->ground.place}, wrong};
+}
+
 /* A value of more numbers than this is not shown. */
 enum { MOST_SHOWN = 64 };
 
@@ -88,9 +93,8 @@ static void add_ground(struct record *to, const struct found *f) {
 /* Path, verdict, place and sentence, and what is found. */
 static struct told tell_words(struct record *to, const char *path, const struct whole *file) {
     static struct found f;
-    const char *wrong = look(file, &f);
-    struct told told = {{f.ground.verdict, f.ground.place}, wrong};
-    if (wrong) return told;
+    struct told told = told_of(file, &f);
+    if (told.wrong) return told;
     add_text(to, path, strlen(path));
     add(to, ": verdict ");
     add_number(to, f.ground.verdict);
@@ -278,9 +282,8 @@ static void add_json_found(struct record *to, const struct found *f) {
 /* One JSON object on a line. */
 static struct told tell_json(struct record *to, const char *path, const struct whole *file) {
     static struct found f;
-    const char *wrong = look(file, &f);
-    struct told told = {{f.ground.verdict, f.ground.place}, wrong};
-    if (wrong) return told;
+    struct told told = told_of(file, &f);
+    if (told.wrong) return told;
     add(to, "{");
     add_member(to, "path", path, strlen(path));
     add_json_number(to, ",", "verdict", f.ground.verdict);
