@@ -4,17 +4,20 @@
 //! sums in u64.
 //!
 //! `tables` holds the one table for tags and the one for keys; `directory`
-//! rules 1 to 8 and 27; `tags` 9 to 12; `pieces` 13, 14 and the reading list;
-//! `keys` 15 to 19; `ground` 20 to 22; `block` the key block; `calls` the calls.
+//! rules 1 to 8 and 27; `tags` 9 to 12; `pieces` 13 and 14; `keys` 15 to 19;
+//! `ground` 20 to 22; `examine` all of them in order; `reading` the reading
+//! list; `block` the key block; `calls` the calls.
 
 mod block;
 mod calls;
 pub mod clauses;
 mod directory;
+mod examine;
 mod ground;
 mod keys;
 mod number;
 mod pieces;
+mod reading;
 pub mod tables;
 mod tags;
 mod variety;
@@ -25,8 +28,9 @@ pub use calls::{
     citation, citation_clause, judge, judge_by, judge_clause, key_block, key_block_clause,
     key_rows, key_rows_clause, metadata, Block, Cited, Judged, Row, Text,
 };
+pub use directory::families;
 pub use ground::Georeference;
 pub use number::Order;
-pub use pieces::{listed, reading_list, reading_list_by};
+pub use reading::{listed, reading_list, reading_list_by};
 pub use variety::{varieties, VARIETIES};
 pub use verdict::{judgements, Verdict};

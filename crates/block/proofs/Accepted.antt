@@ -20,15 +20,16 @@ use Rattle.paper.specs.declared.Verdict.{Verdict}
 use Rattle.paper.proofs.Called.{answer-good, answer-bad, judged-verdict}
 use Rattle.tags.specs.Slots.{tagAt, lineAt}
 use Rattle.keys.specs.Pass.{runs}
-use Rattle.judge.specs.Examining.{runOf, examinedIn, examinedOf}
-use Rattle.judge.specs.declared.Run.{Run}
+use Rattle.image.specs.Imaging.{tagPart}
+use Rattle.judge.specs.Examining.{examinedIn, examinedOf}
+use Rattle.paper.specs.declared.Part.{Part}
 use Rattle.judge.specs.declared.Examined.{Examined}
-use Rattle.judge.proofs.Laid.{judged-is}
-use Rattle.judge.proofs.Seen.{Stands, accepted, found, fifteen, seventeen, stands}
+use Rattle.paper.proofs.Keeps.{rule15-kept, rule17-kept}
+use Rattle.judge.proofs.Seen.{Stands, judged-is, accepted, found, stands}
 use Rattle.block.specs.Sizes.{Sound}
 
 -- a run's part of the file
-abbrev pub partOf : List ℕ → Run → List ℕ
+abbrev pub partOf : List ℕ → Part → List ℕ
 partOf f r = run f (r .start) (r .len)
 
 abbrev pub runsBy : List ℕ → Examined → Runs
@@ -56,12 +57,12 @@ module _ (f : List ℕ) (zero : verdictOf f .number ≡ 0) where
   characters = stands f zero 19 (lit< tt)
 
   same : runsBy f (examinedIn (view f)) ≡ runsOf (view f)
-  unfolding runsOf examinedIn runOf
+  unfolding runsOf examinedIn tagPart
   same =
       λ i. record { big = view f .head .big; directory = directory .bytes i; doubles = doubles .bytes i; characters = characters .bytes i }
 
   in-view : Ready f (examinedIn (view f))
-  unfolding examinedIn runOf judgedIn
+  unfolding examinedIn tagPart judgedIn
   in-view =
       record {
         directory-in = directory .within;
@@ -70,7 +71,7 @@ module _ (f : List ℕ) (zero : verdictOf f .number ≡ 0) where
         runs-are = same;
         sound =
             subst (λ (r : Runs). Sound r (examinedIn (view f) .judged .keys)) (sym same)
-            (record { fifteen = fifteen f zero; seventeen = seventeen f zero; many = refl });
+            (record { fifteen = rule15-kept f zero; seventeen = rule17-kept f zero; many = refl });
       }
 
 module _ (f : List ℕ) (e : Examined) (is : e ≡ examinedOf f) where

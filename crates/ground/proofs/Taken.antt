@@ -3,11 +3,11 @@
 use mathlib.Core.Path.{_≡_, refl}
 use mathlib.Core.Bool.{Bool, true, false}
 use lib.Dec.{eqb}
-use borrow.Author.Tests.{eq-eqb, ne-eqb}
+use borrow.Author.Tests.{eq-eqb}
 use Rattle.paper.specs.Outcome.{first}
 use Rattle.paper.specs.Ground.{Survey, georeference, corners}
 use Rattle.paper.specs.Judge.{groundRules}
-use Rattle.ground.specs.Answer.{noGround, groundJudged}
+use Rattle.ground.specs.Answer.{groundJudged}
 
 pub verdict-is : (v : Survey) → groundJudged v .verdict ≡ first (groundRules v)
 unfolding groundJudged
@@ -21,7 +21,3 @@ pub accepted : (v : Survey) → first (groundRules v) .number ≡ 0
     → groundJudged v ≡ record { verdict = first (groundRules v); georeference = georeference v; corners = corners v }
 unfolding groundJudged
 accepted v z = rw (eq-eqb (first (groundRules v) .number) 0 z)
-
-pub refused : (v : Survey) → (first (groundRules v) .number ≡ 0 → ⊥) → groundJudged v ≡ noGround (first (groundRules v))
-unfolding groundJudged
-refused v z = rw (ne-eqb (first (groundRules v) .number) 0 z)

@@ -1,5 +1,3 @@
-pub mod Listed
-pub mod Chained
-pub mod Shown
-pub mod Laid
+-- The laws that the proofs of this crate share; the crates above cite those of Seen. Assumes nothing.
 pub mod Seen
+pub mod Examining

@@ -1,2 +1,2 @@
+-- The definitions of this crate, file by file. Assumes nothing.
 pub mod Examining
-pub mod Stages

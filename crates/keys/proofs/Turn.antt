@@ -1,6 +1,6 @@
 -- One turn of the pass over the key entries, from the last to the first: what is known of the entries from i on, and what one entry more in
 -- front makes of it. Assumes nothing.
-use Prim.Native.Nat.{ℕ, suc, _+_, _-_, _<_, _≤_}
+use Prim.Native.Nat.{ℕ, suc, _-_, _<_, _≤_}
 use mathlib.Core.Path.{_≡_, refl, sym, ap, _∙_}
 use mathlib.Core.Bool.{Bool, true, false, cond, not}
 use mathlib.Core.List.{List, [], _∷_, map}
@@ -9,56 +9,46 @@ use native.Mathlib.Nat.{sub-zero}
 use lib.Dec.{eqb, leb}
 use lib.ListN.{length, set}
 use lib.Seq.{set-out}
-use borrow.Author.Tests.{lt-ltb, le-ltb, lt-leb, leb-true, leb-false, eqb-true, ne-eqb}
+use borrow.Author.Tests.{lt-ltb, eqb-true, ne-eqb}
 use Rattle.paper.specs.Bytes.{build}
-use Rattle.paper.specs.Outcome.{ascending, ascendingFrom, firstBad, first}
+use Rattle.paper.specs.Outcome.{ascending, firstBad, first}
 use Rattle.paper.specs.Tests.{all}
 use Rattle.paper.specs.Key
 use Rattle.paper.specs.Keys.{Runs, shortKind, knownKeys, kindIn, kindOf, short, keyAt, room, rightPlace, misplaced, rule16, rule17, keyValue}
 use Rattle.paper.specs.declared.KeyEntry.{KeyEntry}
 use Rattle.paper.specs.declared.Outcome.{Outcome}
-use Rattle.paper.specs.declared.Outcome.the-variants.{Kept as kept, Broken as broken}
-use Rattle.paper.proofs.Laws.{build-step, and-eq}
+use Rattle.paper.proofs.Laws.{and-eq}
 use Rattle.paper.proofs.Loops.{build-end}
+use Rattle.outcomes.specs.Told.{toldBy}
+use Rattle.outcomes.proofs.Back.{step-back, front, near, told-or, told-rise}
 use Rattle.keys.specs.declared.KeysJudged.{KeysJudged}
-use Rattle.keys.specs.Pass.{runs, judged, entryRules, entriesJudged, none, nextKey, held, askedKeys, finished}
+use Rattle.keys.specs.Pass.{runs, judged, entryRules, entriesJudged, none, held, askedKeys, finished}
 use Rattle.paper.specs.Tests.{indexOf}
 use Rattle.paper.proofs.Store.{set-index}
 use Rattle.keys.proofs.Numbers.{fits, needed-is, allowed-is, held-is}
 
 -- ---- what is known of the entries ks, and of one more
 
-pub record Seen (r : Runs) (ks : List KeyEntry) (sixteen seventeen : Outcome) (next : ℕ) (found : List ℕ) : Type 0 where
-  pub rises : sixteen ≡ rule16 ks
-  pub placed : seventeen ≡ rule17 r ks
-  pub after : next ≡ nextKey ks
+pub record Seen (r : Runs) (ks : List KeyEntry) (sixteen seventeen next : ℕ) (found : List ℕ) : Type 0 where
+  pub rises : toldBy sixteen ≡ rule16 ks
+  pub placed : toldBy seventeen ≡ rule17 r ks
+  pub after : next ≡ front (map (λ e. e .key) ks)
   pub numbers : found ≡ map (λ k. held k ks) askedKeys
   pub small : all fits ks ≡ true
 
--- rule 16 with one entry in front
-rise : (e : KeyEntry) (es : List KeyEntry) → e .key < none
-    → cond (leb (nextKey es) (e .key)) (broken (nextKey es)) (rule16 es) ≡ rule16 (e ∷ es)
-unfolding rule16 ascending ascendingFrom nextKey
-rise e [] h = rw (lt-leb none (e .key) h)
-rise e (x ∷ xs) h = go (leb (x .key) (e .key)) refl
-  where
-    go : (b : Bool) → leb (x .key) (e .key) ≡ b
-        → cond (leb (nextKey (x ∷ xs)) (e .key)) (broken (nextKey (x ∷ xs))) (rule16 (x ∷ xs)) ≡ rule16 (e ∷ x ∷ xs)
-    go true p = rw (p, le-ltb (e .key) (x .key) (leb-true (x .key) (e .key) p))
-    go false p = rw (p, lt-ltb (e .key) (x .key) (leb-false (x .key) (e .key) p))
-
 module _ (r : Runs) where
-  none-seen : Seen r [] kept kept none (none ∷ none ∷ none ∷ none ∷ none ∷ none ∷ none ∷ [])
-  unfolding rule16 ascending rule17 firstBad nextKey held all
+  none-seen : Seen r [] none none none (none ∷ none ∷ none ∷ none ∷ none ∷ none ∷ none ∷ [])
+  unfolding toldBy rule16 ascending rule17 firstBad front held all
   none-seen = record { rises = refl; placed = refl; after = refl; numbers = refl; small = refl }
 
-  module _ (es : List KeyEntry) (a b : Outcome) (n : ℕ) (f : List ℕ) (seen : Seen r es a b n f) (e : KeyEntry) (low : e .key < 65536) (low′ : e .index < 65536) where
-    rises : cond (leb n (e .key)) (broken n) a ≡ rule16 (e ∷ es)
-    rises = rw (seen .after, seen .rises) (rise e es low)
+  module _ (es : List KeyEntry) (a b n : ℕ) (f : List ℕ) (seen : Seen r es a b n f) (e : KeyEntry) (low : e .key < 65536) (low′ : e .index < 65536) where
+    rises : toldBy (cond (leb n (e .key)) n a) ≡ rule16 (e ∷ es)
+    unfolding rule16
+    rises = told-rise (e .key) n a (map (λ x. x .key) es) low (seen .rises) (seen .after)
 
-    placed : cond (misplaced r e) (broken (e .key)) b ≡ rule17 r (e ∷ es)
+    placed : toldBy (cond (misplaced r e) (e .key) b) ≡ rule17 r (e ∷ es)
     unfolding rule17 firstBad
-    placed = rw (seen .placed)
+    placed = told-or (misplaced r e) (e .key) b low ∙ rw (seen .placed)
 
     numbers : set f (indexOf (e .key) askedKeys) (e .index) ≡ map (λ k. held k (e ∷ es)) askedKeys
     unfolding held
@@ -68,22 +58,22 @@ module _ (r : Runs) where
     unfolding all
     small = rw (lt-ltb (e .index) none low′) (seen .small)
 
-    seen-in : Seen r (e ∷ es) (cond (leb n (e .key)) (broken n) a) (cond (misplaced r e) (broken (e .key)) b) (e .key)
+    seen-in : Seen r (e ∷ es) (cond (leb n (e .key)) n a) (cond (misplaced r e) (e .key) b) (e .key)
         (set f (indexOf (e .key) askedKeys) (e .index))
-    unfolding nextKey
+    unfolding front
     seen-in = record { rises = rises; placed = placed; after = refl; numbers = numbers; small = small }
 
     -- one that is not asked for
     seen-out : 7 ≤ indexOf (e .key) askedKeys
-        → Seen r (e ∷ es) (cond (leb n (e .key)) (broken n) a) (cond (misplaced r e) (broken (e .key)) b) (e .key) f
-    unfolding nextKey
+        → Seen r (e ∷ es) (cond (leb n (e .key)) n a) (cond (misplaced r e) (e .key) b) (e .key) f
+    unfolding front
     seen-out h =
         let l : length f ≤ indexOf (e .key) askedKeys = rw (seen .numbers) h in
         record { rises = rises; placed = placed; after = refl; numbers = sym (set-out f (indexOf (e .key) askedKeys) (e .index) l) ∙ numbers; small = small }
 
   -- the answer once all are seen
-  finished-is : (ks : List KeyEntry) (a b : Outcome) (n : ℕ) (f : List ℕ) (k : ℕ) → Seen r ks a b n f
-      → finished a b f k ≡ judged (first (entryRules r ks)) k (eqb (keyValue Key.rasterType ks) 2)
+  finished-is : (ks : List KeyEntry) (a b n : ℕ) (f : List ℕ) (k : ℕ) → Seen r ks a b n f
+      → finished (toldBy a) (toldBy b) f k ≡ judged (first (entryRules r ks)) k (eqb (keyValue Key.rasterType ks) 2)
   unfolding finished
   finished-is ks a b n f k s =
       rw (s .rises, s .placed, s .numbers, needed-is ks (s .small), allowed-is ks (s .small), held-is Key.rasterType 2 ks refl refl)
@@ -100,10 +90,7 @@ entry-any big d x t i = refl
 
 rest-step : (big : Bool) (d x t : List ℕ) (c h : ℕ) (e : KeyEntry) → 0 < h → h ≤ c → e ≡ keyAt (runs big d [] []) (h - 1)
     → rest (runs big d x t) c (h - 1) ≡ e ∷ rest (runs big d x t) c h
-rest-step big d x t c h e p q w =
-    let u : h - 1 + 1 ≡ h = omega arith in
-    let s = build-step (keyAt (runs big d x t)) (h - 1) c (omega arith) in
-    rw u at s ∙ ap (λ (y : KeyEntry). y ∷ rest (runs big d x t) c h) (sym (w ∙ entry-any big d x t (h - 1)))
+rest-step big d x t c h e p q w = rw (w, entry-any big d x t (h - 1)) (step-back (keyAt (runs big d x t)) c h p q)
 
 -- whether an entry is misplaced, as code tests it: from its kind, and in either byte order
 misplaced-by : (big : Bool) (d x t : List ℕ) (e : KeyEntry) (k : ℕ) (p : Bool) → p ≡ rightPlace (runs false d x t) e k → k ≡ kindOf (e .key)
@@ -127,30 +114,38 @@ asked-short k n = let e : indexOf k askedKeys ≡ 7 = index-out k askedKeys refl
 -- ---- the loop: before its first turn, one turn, and after its last
 
 -- before entry i - 1 is looked at
-pub record Passing (big : Bool) (d x t : List ℕ) (c i : ℕ) (a b : Outcome) (n : ℕ) (f : List ℕ) : Type 0 where
+pub record Passing (big : Bool) (d x t : List ℕ) (c i a b n : ℕ) (f : List ℕ) : Type 0 where
   pub few : i ≤ c
-  pub near : n ≤ none
+  pub near16 : a ≤ none
+  pub near17 : b ≤ none
+  pub near-next : n ≤ none
   pub seen : Seen (runs big d x t) (rest (runs big d x t) c i) a b n f
 
 pub pass-start : (big : Bool) (d x t : List ℕ) (c : ℕ)
-    → Passing big d x t c c kept kept none (none ∷ none ∷ none ∷ none ∷ none ∷ none ∷ none ∷ [])
+    → Passing big d x t c c none none none (none ∷ none ∷ none ∷ none ∷ none ∷ none ∷ none ∷ [])
 pass-start big d x t c =
     let r = runs big d x t in
-    record { few = omega arith; near = omega arith; seen = rw (build-end (keyAt r) c) (none-seen r) }
+    record { few = omega arith; near16 = omega arith; near17 = omega arith; near-next = omega arith; seen = rw (build-end (keyAt r) c) (none-seen r) }
 
-module _ {big : Bool} {d x t : List ℕ} {c h : ℕ} {a b : Outcome} {n : ℕ} {f : List ℕ} (pass : Passing big d x t c h a b n f) (some : 0 < h) {e : KeyEntry}
-    (is-e : e ≡ keyAt (runs big d [] []) (h - 1)) (low : e .key < 65536) (low′ : e .index < 65536) {a′ : Outcome}
-    (is-a : a′ ≡ cond (leb n (e .key)) (broken n) a) {k : ℕ} (is-k : k ≡ kindOf (e .key)) {p : Bool} (is-p : p ≡ rightPlace (runs false d x t) e k)
-    {b′ : Outcome} (is-b : b′ ≡ cond (not p) (broken (e .key)) b) where
-  is-b′ : b′ ≡ cond (misplaced (runs big d x t) e) (broken (e .key)) b
-  is-b′ = is-b ∙ ap (λ (y : Bool). cond y (broken (e .key)) b) (misplaced-by big d x t e k p is-p is-k)
+module _ {big : Bool} {d x t : List ℕ} {c h a b n : ℕ} {f : List ℕ} (pass : Passing big d x t c h a b n f) (some : 0 < h) {e : KeyEntry}
+    (is-e : e ≡ keyAt (runs big d [] []) (h - 1)) (low : e .key < 65536) (low′ : e .index < 65536) {a′ : ℕ}
+    (is-a : a′ ≡ cond (leb n (e .key)) n a) {k : ℕ} (is-k : k ≡ kindOf (e .key)) {p : Bool} (is-p : p ≡ rightPlace (runs false d x t) e k)
+    {b′ : ℕ} (is-b : b′ ≡ cond (not p) (e .key) b) where
+  is-b′ : b′ ≡ cond (misplaced (runs big d x t) e) (e .key) b
+  is-b′ = is-b ∙ ap (λ (y : Bool). cond y (e .key) b) (misplaced-by big d x t e k p is-p is-k)
 
   passed : (g : List ℕ)
-      → Seen (runs big d x t) (e ∷ rest (runs big d x t) c h) (cond (leb n (e .key)) (broken n) a) (cond (misplaced (runs big d x t) e) (broken (e .key)) b)
+      → Seen (runs big d x t) (e ∷ rest (runs big d x t) c h) (cond (leb n (e .key)) n a) (cond (misplaced (runs big d x t) e) (e .key) b)
       (e .key) g
       → Passing big d x t c (h - 1) a′ b′ (e .key) g
   passed g s =
-      record { few = omega (arith, pass .few); near = omega arith; seen = rw (rest-step big d x t c h e some (pass .few) is-e, is-a, is-b′) s }
+      record {
+        few = omega (arith, pass .few);
+        near16 = near (leb n (e .key)) n a is-a (pass .near-next) (pass .near16);
+        near17 = near (not p) (e .key) b is-b (omega arith) (pass .near17);
+        near-next = omega arith;
+        seen = rw (rest-step big d x t c h e some (pass .few) is-e, is-a, is-b′) s;
+      }
 
   -- a key that is asked for, at place s of those
   pub turn-in : {s : ℕ} → s ≡ indexOf (e .key) askedKeys → Passing big d x t c (h - 1) a′ b′ (e .key) (set f s (e .index))
@@ -167,11 +162,11 @@ module _ {big : Bool} {d x t : List ℕ} {c h : ℕ} {a b : Outcome} {n : ℕ} {
   pub turn-other : (k ≡ shortKind → ⊥) → Passing big d x t c (h - 1) a′ b′ (e .key) f
   turn-other o = out (asked-short (e .key) (λ z. o (is-k ∙ z)))
 
-pub pass-end : {big o : Bool} {d x t : List ℕ} {c i : ℕ} {a b a′ b′ : Outcome} {n : ℕ} {f f′ : List ℕ} {j : KeysJudged} → Passing o d x t c i a b n f
-    → big ≡ o → i ≤ 0 → a′ ≡ a → b′ ≡ b → f′ ≡ f → j ≡ finished a′ b′ f′ c → j ≡ entriesJudged (runs big d x t) c
+pub pass-end : {big o : Bool} {d x t : List ℕ} {c i a b a′ b′ n : ℕ} {oa ob : Outcome} {f f′ : List ℕ} {j : KeysJudged} → Passing o d x t c i a b n f
+    → big ≡ o → i ≤ 0 → a′ ≡ a → b′ ≡ b → f′ ≡ f → oa ≡ toldBy a′ → ob ≡ toldBy b′ → j ≡ finished oa ob f′ c → j ≡ entriesJudged (runs big d x t) c
 unfolding entriesJudged
-pass-end {o = o} {d = d} {x = x} {t = t} {c = c} {i = i} {a = a} {b = b} {n = n} {f = f} pass is-o none-left is-a is-b is-f is-j =
+pass-end {o = o} {d = d} {x = x} {t = t} {c = c} {i = i} {a = a} {b = b} {n = n} {f = f} pass is-o none-left is-a is-b is-f is-oa is-ob is-j =
     let r = runs o d x t in
     let z : i ≡ 0 = omega arith in
     let s : Seen r (build (keyAt r) 0 c) a b n f = rw (z, sub-zero) at (pass .seen) in
-    is-j ∙ rw (is-a, is-b, is-f, is-o) (finished-is r (build (keyAt r) 0 c) a b n f c s)
+    is-j ∙ rw (is-oa, is-ob, is-a, is-b, is-f, is-o) (finished-is r (build (keyAt r) 0 c) a b n f c s)

@@ -44,11 +44,6 @@ entriesJudged r k =
 abbrev pub none : ℕ
 none = 65536
 
--- the first entry's key
-unfoldable pub nextKey : List KeyEntry → ℕ
-nextKey [] = none
-nextKey (e ∷ es) = e .key
-
 -- the number of a key
 unfoldable pub held : ℕ → List KeyEntry → ℕ
 held k [] = none

@@ -5,13 +5,11 @@ use paper::Outcome;
 use paper::Row;
 use paper::Verdict;
 ghost use mathlib.Core.Path.{_≡_};
-ghost use mathlib.Core.Bool.{false, cond, _&&_};
+ghost use mathlib.Core.Bool.{false, _&&_};
 ghost use mathlib.Core.List.{[], _∷_};
 ghost use Prim.Native.Nat.{_+_, _*_, _≤_, _<_};
 ghost use lib.Dec.{leb};
 ghost use lib.ListN.{length};
-ghost use Rattle.paper.specs.Outcome.{orElse};
-ghost use Rattle.paper.specs.declared.Outcome.the-variants.{Broken as broken};
 ghost use Rattle.paper.specs.Tests.{just};
 ghost use Rattle.paper.specs.Keys.{kindOf, rule15, keyAt, room, inEntry, rightPlace};
 ghost use Rattle.paper.specs.Calls.{rowOf};
@@ -41,9 +39,6 @@ pub const DIRECTORY: usize = 34735;
 pub const DOUBLES: usize = 34736;
 
 pub const CHARACTERS: usize = 34737;
-
-// Above every SHORT: the number of a key that is absent, and the next key after the last.
-const NONE: usize = 65536;
 
 // ---- the kinds of the 45 known keys
 
@@ -323,29 +318,7 @@ fn asked(key: usize) -> usize
     }
 }
 
-// ---- outcomes and verdicts
-
-// Broken at a place, or else what is known of the later entries.
-fn broken_or(bad: bool, place: usize, later: Outcome) -> Outcome
-    requires { ⌜ place < 4294967296 ⌝ }
-    ensures { λ r. ⌜ r ≡ cond bad (broken place) later ⌝ }
-{
-    if bad {
-        Outcome::Broken(place as u32)
-    } else {
-        later
-    }
-}
-
-// A rule's verdict where it is broken, and else what the later rules give.
-fn or_else(number: u32, outcome: Outcome, later: Verdict) -> Verdict
-    ensures { λ r. ⌜ r ≡ orElse number outcome later ⌝ }
-{
-    if let Outcome::Broken(place) = outcome {
-        return Verdict { number, place };
-    }
-    later
-}
+// ---- the answer
 
 // K and the raster type go with verdict 0 only.
 fn answer(verdict: Verdict, count: usize, point: bool) -> KeysJudged
@@ -372,16 +345,16 @@ fn answer(verdict: Verdict, count: usize, point: bool) -> KeysJudged
 fn needed_keys(model: usize, raster: usize, geodetic: usize, projected: usize) -> Outcome
     ensures { λ r. ⌜ r ≡ needed model raster geodetic projected ⌝ }
 {
-    if model == NONE {
+    if model == outcomes::NONE {
         return Outcome::Broken(1024);
     }
-    if raster == NONE {
+    if raster == outcomes::NONE {
         return Outcome::Broken(1025);
     }
-    if (model == 2) & (geodetic == NONE) {
+    if (model == 2) & (geodetic == outcomes::NONE) {
         return Outcome::Broken(2048);
     }
-    if (model == 1) & (projected == NONE) {
+    if (model == 1) & (projected == outcomes::NONE) {
         return Outcome::Broken(3072);
     }
     Outcome::Kept
@@ -391,14 +364,14 @@ fn needed_keys(model: usize, raster: usize, geodetic: usize, projected: usize) -
 fn is_not(v: usize, only: usize) -> bool
     ensures { λ r. ⌜ r ≡ wrong (just only ∷ []) v ⌝ }
 {
-    (v != NONE) & (v != only)
+    (v != outcomes::NONE) & (v != only)
 }
 
 // Whether model type or raster type is present and neither 1 nor 2.
 fn is_no_type(v: usize) -> bool
     ensures { λ r. ⌜ r ≡ wrong oneOrTwo v ⌝ }
 {
-    (v != NONE) & ((v != 1) & (v != 2))
+    (v != outcomes::NONE) & ((v != 1) & (v != 2))
 }
 
 // Whether the projected system is present and in neither range, north or south.
@@ -407,7 +380,7 @@ fn is_no_zone(v: usize) -> bool
 {
     let north = (32601 <= v) & (v <= 32661);
     let south = (32701 <= v) & (v <= 32761);
-    (v != NONE) & !(north | south)
+    (v != outcomes::NONE) & !(north | south)
 }
 
 // Whether the vertical system is present and none of the six allowed.
@@ -416,7 +389,7 @@ fn is_no_height(v: usize) -> bool
 {
     let other = (v != 3855)
         & ((v != 4979) & ((v != 5714) & ((v != 5715) & ((v != 5773) & (v != 5798)))));
-    (v != NONE) & other
+    (v != outcomes::NONE) & other
 }
 
 // Rule 19: the lowest key whose number is not allowed.
@@ -478,8 +451,8 @@ fn finish(sixteen: Outcome, seventeen: Outcome, found: &[usize; 7], count: usize
         number: 0,
         place: 0,
     };
-    let last = or_else(18, eighteen, or_else(19, nineteen, none));
-    let verdict = or_else(16, sixteen, or_else(17, seventeen, last));
+    let last = outcomes::or_else(18, eighteen, outcomes::or_else(19, nineteen, none));
+    let verdict = outcomes::or_else(16, sixteen, outcomes::or_else(17, seventeen, last));
     answer(verdict, count, found[1] == 2)
 }
 
@@ -497,22 +470,22 @@ fn judge_entries(
     requires { ⌜ (now keys ≡ keyNumbers) × (now kinds ≡ keyKinds) × (count ≤ 256) × (8 + 8 * count ≤ length (now directory)) ⌝ }
     ensures { λ r. ⌜ r ≡ entriesJudged (runs big (now (directory .entry)) (now (doubles .entry)) (now (characters .entry))) count ⌝ }
 {
-    let mut sixteen = Outcome::Kept;
-    let mut seventeen = Outcome::Kept;
-    let mut next = NONE;
-    let mut found = [NONE; 7];
+    let mut sixteen = outcomes::NONE;
+    let mut seventeen = outcomes::NONE;
+    let mut next = outcomes::NONE;
+    let mut found = [outcomes::NONE; 7];
     let mut i = count;
     if big {
         while 0 < i {
             i -= 1;
             let e = entry_at(directory, true, i);
             // Rule 16: a key is below the next one.
-            sixteen = broken_or(next <= e.key, next, sixteen);
+            sixteen = outcomes::broken_or(next <= e.key, next, sixteen);
             next = e.key;
             // Rule 17: location, count and value index are as the kind asks.
             let kind = kind_in(keys, kinds, e.key);
             let placed = is_placed(directory, doubles, characters, e, kind);
-            seventeen = broken_or(!placed, e.key, seventeen);
+            seventeen = outcomes::broken_or(!placed, e.key, seventeen);
             // What rules 18 and 19 ask for: the number of a key.
             if kind == 0 {
                 let at = asked(e.key);
@@ -526,12 +499,12 @@ fn judge_entries(
             i -= 1;
             let e = entry_at(directory, false, i);
             // Rule 16: a key is below the next one.
-            sixteen = broken_or(next <= e.key, next, sixteen);
+            sixteen = outcomes::broken_or(next <= e.key, next, sixteen);
             next = e.key;
             // Rule 17: location, count and value index are as the kind asks.
             let kind = kind_in(keys, kinds, e.key);
             let placed = is_placed(directory, doubles, characters, e, kind);
-            seventeen = broken_or(!placed, e.key, seventeen);
+            seventeen = outcomes::broken_or(!placed, e.key, seventeen);
             // What rules 18 and 19 ask for: the number of a key.
             if kind == 0 {
                 let at = asked(e.key);
@@ -541,7 +514,7 @@ fn judge_entries(
             }
         }
     }
-    finish(sixteen, seventeen, &found, count)
+    finish(outcomes::told(sixteen), outcomes::told(seventeen), &found, count)
 }
 
 // Rules 15 to 19 over the values of 34735, 34736 and 34737; an absent tag is an empty run.

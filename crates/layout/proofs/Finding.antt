@@ -1,25 +1,23 @@
 -- The places of the table's tags: what a place says of the entry that is found, and the slot of a tag. Assumes nothing.
-use Prim.Native.Nat.{ℕ, zero, suc, _+_, _-_, _%_, _≤_, _<_, zero-le}
+use Prim.Native.Nat.{ℕ, zero, suc, _+_, _-_, _≤_, _<_, zero-le}
 use mathlib.Core.Path.{_≡_, refl, sym, ap, _∙_, subst}
-use mathlib.Core.Bool.{Bool, true, false, cond, not, _&&_, _||_, false≢true}
-use mathlib.Core.Logic.{_⊎_, inl, inr, ⊎-elim}
-use mathlib.Core.List.{List, [], _∷_, map}
-use native.Mathlib.Nat.{not-suc-le-zero, le-of-suc-le-suc, lt-irrefl}
+use mathlib.Core.Bool.{Bool, true, false, not, _&&_, _||_, false≢true}
+use mathlib.Core.List.{List, [], _∷_}
+use native.Mathlib.Nat.{not-suc-le-zero}
 use native.Mathlib.Omega.{arith}
 use native.Mathlib.Numerals.{add-one}
-use lib.Dec.{eqb, leb, ltb}
-use lib.ListN.{length, getD, set}
-use borrow.Author.Tests.{eqb-true, eqb-false, eq-eqb, ne-eqb, not-true, ltb-true}
+use lib.Dec.{eqb, ltb}
+use lib.ListN.{length, getD}
+use borrow.Author.Tests.{eqb-true, eqb-false, eq-eqb, ne-eqb, ltb-true}
 use Rattle.paper.specs.Bytes.{build}
 use Rattle.paper.specs.Layout.{entryAt, entries}
 use Rattle.paper.specs.Tags.{absent, table}
 use Rattle.paper.specs.declared.Entry.{Entry}
-use Rattle.paper.specs.Tests.{all}
+use Rattle.paper.specs.Tests.{all, indexOf}
 use Rattle.paper.proofs.Laws.{and-eq}
 use Rattle.paper.proofs.Store.{distinct}
 use Rattle.paper.proofs.Loops.{findEntry}
-use Rattle.layout.specs.Finding.{cellOf, cellTags, cellSlots, inCell, placeFrom, placeIn, places, foundOf}
-use Rattle.paper.specs.Tests.{indexOf}
+use Rattle.layout.specs.Finding.{cellOf, cellTags, cellSlots, inCell, placeFrom, placeIn, foundOf}
 use Rattle.layout.specs.Columns.{tags}
 
 -- ---- the table
@@ -31,11 +29,11 @@ tags-distinct = refl
 -- ---- a place found
 
 -- entries g i, g (i + 1), .., k of them: the first with tag t, by its place q
-pub record Placed (t : ℕ) (g : ℕ → Entry) (i k q : ℕ) : Type 0 where
-  pub low : i < q
-  pub high : q ≤ i + k
-  pub entry : findEntry t (build g i k) ≡ g (q - 1)
-  pub tag : g (q - 1) .tag ≡ t
+record Placed (t : ℕ) (g : ℕ → Entry) (i k q : ℕ) : Type 0 where
+  low : i < q
+  high : q ≤ i + k
+  entry : findEntry t (build g i k) ≡ g (q - 1)
+  tag : g (q - 1) .tag ≡ t
 
 placed-from : (t : ℕ) (g : ℕ → Entry) (i k : ℕ) → (placeFrom t i (build g i k) ≡ 0 → ⊥) → Placed t g i k (placeFrom t i (build g i k))
 unfolding placeFrom findEntry build
@@ -60,11 +58,6 @@ placed-none t i (e ∷ es) h = go (eqb (e .tag) t) refl (placed-none t (i + 1) e
     go : (b : Bool) → eqb (e .tag) t ≡ b → (placeFrom t (i + 1) es ≡ 0 → findEntry t es ≡ absent .entry) → findEntry t (e ∷ es) ≡ absent .entry
     go true q ih = let z : i + 1 ≡ 0 = rw q at h in absurd (omega arith)
     go false q ih = rw q (ih (rw q at h))
-
-getD-map : (f : ℕ → ℕ) (ts : List ℕ) (k : ℕ) → k < length ts → getD (map f ts) k 0 ≡ f (getD ts k 0)
-getD-map f [] k h = absurd (not-suc-le-zero h)
-getD-map f (t ∷ ts) zero h = refl
-getD-map f (t ∷ ts) (suc k) h = getD-map f ts k (le-of-suc-le-suc h)
 
 -- ---- for the functions that come after
 
@@ -145,23 +138,21 @@ cell-low : (t : ℕ) → cellOf t < 32
 unfolding cellOf
 cell-low t = omega arith
 
-pub cell-found : (t : ℕ) → inCell t ≡ true → (getD cellSlots (cellOf t) 0 ≡ indexOf t tags) × (getD cellSlots (cellOf t) 0 < 21)
-unfolding inCell right
-cell-found t h =
-    let e : getD cellTags (cellOf t) 0 ≡ t = eqb-true _ _ h in
+-- the slot in the cell of a tag that stands there
+cell-slot : (t : ℕ) → getD cellTags (cellOf t) 0 ≡ t → (getD cellSlots (cellOf t) 0 ≡ indexOf t tags) × (getD cellSlots (cellOf t) 0 < 21)
+unfolding right
+cell-slot t h =
+    let own : cellOf (getD cellTags (cellOf t) 0) ≡ cellOf t = ap cellOf h in
     let r : right (cellOf t) ≡ true = passes-at right 32 all-right (cellOf t) (cell-low t) in
-    here e r
-  where
-    after : (b c : Bool) → b ≡ true → not b || c ≡ true → c ≡ true
-    after true c k r = r
-    after false c k r = absurd (false≢true k)
+    let both = and-eq (ltb (getD cellSlots (cellOf t) 0) 21) _ (rw (eq-eqb _ _ own) at r) in
+    (eqb-true _ _ (both .1) ∙ ap (λ (x : ℕ). indexOf x tags) h, ltb-true _ _ (both .0))
 
-    rest : eqb (cellOf (getD cellTags (cellOf t) 0)) (cellOf t) ≡ true → right (cellOf t) ≡ true
-        → ltb (getD cellSlots (cellOf t) 0) 21 && eqb (getD cellSlots (cellOf t) 0) (indexOf (getD cellTags (cellOf t) 0) tags) ≡ true
-    rest k r = after _ _ k r
+-- as code looks them up
+module _ (t cell : ℕ) (is-cell : cell ≡ cellOf t) (x : ℕ) where
+  pub listed-by : (cells : List ℕ) → cells ≡ cellTags → x ≡ getD cells cell 0 → eqb x t ≡ inCell t
+  unfolding inCell
+  listed-by cells p q = rw (q, p, is-cell)
 
-    here : getD cellTags (cellOf t) 0 ≡ t → right (cellOf t) ≡ true → (getD cellSlots (cellOf t) 0 ≡ indexOf t tags) × (getD cellSlots (cellOf t) 0 < 21)
-    here e r =
-        let own : cellOf (getD cellTags (cellOf t) 0) ≡ cellOf t = ap cellOf e in
-        let both = and-eq (ltb (getD cellSlots (cellOf t) 0) 21) _ (rest (eq-eqb _ _ own) r) in
-        (eqb-true _ _ (both .1) ∙ ap (λ (x : ℕ). indexOf x tags) e, ltb-true _ _ (both .0))
+  pub slot-by : (slots : List ℕ) → slots ≡ cellSlots → x ≡ getD slots cell 0 → inCell t ≡ true → (x ≡ indexOf t tags) × (x < 21)
+  unfolding inCell
+  slot-by slots p q h = rw (q, p, is-cell) (cell-slot t (eqb-true _ _ h))

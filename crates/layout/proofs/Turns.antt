@@ -1,159 +1,169 @@
--- One turn of the pass from the last entry to the first: what rules 6 and 7 and the table's places are with one entry more in front.
--- Assumes nothing.
-use Prim.Native.Nat.{ℕ, _+_, _-_, _≤_, _<_}
-use mathlib.Core.Path.{_≡_, refl, sym, ap, ap₂, _∙_, subst}
-use mathlib.Core.Bool.{Bool, true, false, cond}
+-- One turn of the pass over a directory, from the last entry to the first: what is known of the entries from i on, and what one entry more in
+-- front makes of it. Assumes nothing.
+use Prim.Native.Nat.{ℕ, _+_, _-_, _*_, _≤_, _<_}
+use mathlib.Core.Path.{_≡_, refl, sym, ap, _∙_}
+use mathlib.Core.Bool.{Bool, false, cond}
 use mathlib.Core.List.{List, [], _∷_, _++_, map}
+use native.Mathlib.Nat.{sub-zero}
 use native.Mathlib.Omega.{arith}
-use lib.Dec.{ltb}
+use lib.Dec.{leb}
 use lib.ListN.{length, set}
 use lib.Seq.{set-out, set-append-left}
-use borrow.Author.Tests.{lt-ltb, ltb-false, ne-eqb}
-use Rattle.paper.specs.Bytes.{build}
-use Rattle.paper.specs.Outcome.{ascending, ascendingFrom, firstBad}
-use Rattle.paper.specs.declared.Outcome.the-variants.{Broken as broken}
+use Rattle.paper.specs.Bytes.{num, build}
+use Rattle.paper.specs.Outcome.{ascending, firstBad, first, orElse, verdict}
+use Rattle.paper.specs.declared.Outcome.{Outcome}
+use Rattle.paper.specs.declared.Verdict.{Verdict}
 use Rattle.paper.specs.declared.Entry.{Entry}
-use Rattle.paper.specs.Layout.{dirLen, entryAt, entries, badValue, rule6, rule7}
+use Rattle.paper.specs.Layout.{entryAt, entries, badValue, nextOffset, rule6, rule7}
 use Rattle.paper.specs.Tags.{table}
-use Rattle.paper.proofs.Laws.{build-step}
-use Rattle.paper.proofs.Loops.{build-end}
-use Rattle.layout.specs.Finding.{told}
 use Rattle.paper.specs.Tests.{indexOf}
-use Rattle.layout.specs.Columns.{tags, fieldOf, column, typsOf, countsOf, startsOf, lensOf}
+use Rattle.paper.specs.Judge.{entryRules}
+use Rattle.paper.proofs.Loops.{build-end}
 use Rattle.paper.proofs.Store.{set-index}
-use Rattle.layout.proofs.Finding.{tags-distinct}
+use Rattle.outcomes.specs.Told.{toldBy}
+use Rattle.outcomes.proofs.Back.{step-back, front, near, told-or, told-rise}
+use Rattle.layout.specs.Opening.{scannedOf}
+use Rattle.layout.specs.Finding.{inCell}
+use Rattle.layout.specs.Columns.{tags, fieldOf, column, typColumn, countColumn, startColumn, lenColumn}
+use Rattle.layout.proofs.Finding.{tags-distinct, cell-none}
 
--- the first tag of some entries; where there are none, a number above every tag
-abbrev pub firstTag : List Entry → ℕ
-firstTag [] = 65536
-firstTag (e ∷ es) = e .tag
+-- ---- the columns of the entries es
 
-front6 : (e : Entry) (es : List Entry) → e .tag < 65536 → rule6 (e ∷ es) ≡ cond (ltb (e .tag) (firstTag es)) (rule6 es) (broken (firstTag es))
-unfolding rule6 ascending ascendingFrom
-front6 e [] h = rw (lt-ltb (e .tag) 65536 h)
-front6 e (x ∷ es) h = refl
+pub record Columns (at c : ℕ) (es : List Entry) (typs counts starts lens : List ℕ) : Type 0 where
+  pub typs-are : typs ≡ typColumn es
+  pub counts-are : counts ≡ countColumn es
+  pub starts-are : starts ≡ startColumn at es
+  pub lens-are : lens ≡ lenColumn c es
 
--- a number below 65536 tells a place
-pub told-place : (p : ℕ) → (p ≡ 65536 → ⊥) → told p ≡ broken p
-unfolding told
-told-place p h = rw (ne-eqb p 65536 h)
-
-told-six : (t six next : ℕ) → t < 65536 → told (cond (ltb t next) six next) ≡ cond (ltb t next) (told six) (broken next)
-told-six t six next h = go (ltb t next) refl
-  where
-    go : (b : Bool) → ltb t next ≡ b → told (cond (ltb t next) six next) ≡ cond (ltb t next) (told six) (broken next)
-    go true e = rw e
-    go false e =
-        let l : next ≤ t = ltb-false t next e in
-        let n : next ≡ 65536 → ⊥ = λ z. omega arith in
-        rw e (told-place next n)
-
-told-seven : (b : Bool) (t seven : ℕ) → t < 65536 → told (cond b t seven) ≡ cond b (broken t) (told seven)
-told-seven true t seven h = let n : t ≡ 65536 → ⊥ = λ z. omega arith in told-place t n
-told-seven false t seven h = refl
-
-pub column-length : (field : Entry → ℕ) (es : List Entry) → length (column field es) ≡ 21
+column-length : (field : Entry → ℕ) (es : List Entry) → length (column field es) ≡ 21
 unfolding column tags table
 column-length field es = refl
 
-module _ (big : Bool) (at c : ℕ) (dir : List ℕ) where
-  -- the entries from i on
-  abbrev pub rest : ℕ → List Entry
-  rest i = build (entryAt big at dir) i (c - i)
+module _ (e : Entry) (es : List Entry) where
+  -- a store at the slot of the tag of e, which comes in front
+  put : (field : Entry → ℕ) → set (column field es) (indexOf (e .tag) tags) (field e) ≡ column field (e ∷ es)
+  unfolding column fieldOf
+  put field = set-index (e .tag) (field e) (λ (t : ℕ). fieldOf field t es) tags tags-distinct
 
-  pub rest-whole : rest 0 ≡ entries big at c dir
+  -- in a column that has more numbers behind it
+  put-front : (field : Entry → ℕ) (more : List ℕ) → indexOf (e .tag) tags < 21
+      → set (column field es ++ more) (indexOf (e .tag) tags) (field e) ≡ column field (e ∷ es) ++ more
+  put-front field more l =
+      set-append-left (column field es) more (indexOf (e .tag) tags) (field e) (rw (column-length field es) l)
+      ∙ ap (λ (xs : List ℕ). xs ++ more) (put field)
+
+  -- a tag that is not in the table changes no column
+  same : (field : Entry → ℕ) → 21 ≤ indexOf (e .tag) tags → column field es ≡ column field (e ∷ es)
+  same field out = sym (set-out (column field es) (indexOf (e .tag) tags) (field e) (rw (column-length field es) out)) ∙ put field
+
+  module _ (at c : ℕ) (typs counts starts lens : List ℕ) (known : Columns at c es typs counts starts lens) where
+    columns-in : (k : ℕ) → k ≡ indexOf (e .tag) tags → k < 21
+        → Columns at c (e ∷ es) (set typs k (e .typ)) (set counts k (e .count)) (set starts k (e .start)) (set lens k (e .len))
+    unfolding typColumn countColumn startColumn lenColumn
+    columns-in k is-k low =
+        let l : indexOf (e .tag) tags < 21 = rw is-k at low in
+        record {
+          typs-are = rw (known .typs-are, is-k) (put (λ (x : Entry). x .typ));
+          counts-are = rw (known .counts-are, is-k) (put (λ (x : Entry). x .count));
+          starts-are = rw (known .starts-are, is-k) (put-front (λ (x : Entry). x .start) _ l);
+          lens-are = rw (known .lens-are, is-k) (put-front (λ (x : Entry). x .len) _ l);
+        }
+
+    columns-out : 21 ≤ indexOf (e .tag) tags → Columns at c (e ∷ es) typs counts starts lens
+    unfolding typColumn countColumn startColumn lenColumn
+    columns-out out =
+        record {
+          typs-are = rw (← same (λ (x : Entry). x .typ) out) (known .typs-are);
+          counts-are = rw (← same (λ (x : Entry). x .count) out) (known .counts-are);
+          starts-are = rw (← same (λ (x : Entry). x .start) out) (known .starts-are);
+          lens-are = rw (← same (λ (x : Entry). x .len) out) (known .lens-are);
+        }
+
+-- ---- rules 6 and 7 of the entries es, in a file of n bytes, and the first tag
+
+pub record Seen (n : ℕ) (es : List Entry) (six seven next : ℕ) : Type 0 where
+  pub rises : toldBy six ≡ rule6 es
+  pub fits : toldBy seven ≡ rule7 n es
+  pub after : next ≡ front (map (λ e. e .tag) es)
+
+none-seen : (n : ℕ) → Seen n [] 65536 65536 65536
+unfolding toldBy rule6 ascending rule7 firstBad front
+none-seen n = record { rises = refl; fits = refl; after = refl }
+
+seen-front : (n : ℕ) (es : List Entry) (six seven next : ℕ) (e : Entry) → Seen n es six seven next → e .tag < 65536
+    → Seen n (e ∷ es) (cond (leb next (e .tag)) next six) (cond (badValue n e) (e .tag) seven) (e .tag)
+unfolding rule6 rule7 firstBad front
+seen-front n es six seven next e seen low =
+    record {
+      rises = told-rise (e .tag) next six (map (λ x. x .tag) es) low (seen .rises) (seen .after);
+      fits = told-or (badValue n e) (e .tag) seven low ∙ rw (seen .fits);
+      after = refl;
+    }
+
+-- ---- the loop: before its first turn, one turn, and after its last
+
+-- before entry i - 1 is looked at
+pub record Passing (n : ℕ) (big : Bool) (at c : ℕ) (dir : List ℕ) (i six seven next : ℕ) (typs counts starts lens : List ℕ) : Type 0 where
+  pub few : i ≤ c
+  pub near6 : six ≤ 65536
+  pub near7 : seven ≤ 65536
+  pub near : next ≤ 65536
+  pub seen : Seen n (build (entryAt big at dir) i (c - i)) six seven next
+  pub columns : Columns at c (build (entryAt big at dir) i (c - i)) typs counts starts lens
+
+pub pass-start : (n : ℕ) (big : Bool) (at c : ℕ) (dir typs counts starts lens : List ℕ) → typs ≡ typColumn [] → counts ≡ countColumn [] → starts ≡ startColumn at []
+    → lens ≡ lenColumn c [] → Passing n big at c dir c 65536 65536 65536 typs counts starts lens
+pass-start n big at c dir typs counts starts lens p q r s =
+    let z : build (entryAt big at dir) c (c - c) ≡ [] = build-end (entryAt big at dir) c in
+    record {
+      few = omega arith;
+      near6 = omega arith;
+      near7 = omega arith;
+      near = omega arith;
+      seen = rw z (none-seen n);
+      columns = rw z record { typs-are = p; counts-are = q; starts-are = r; lens-are = s };
+    }
+
+module _ {n : ℕ} {big : Bool} {at c : ℕ} {dir : List ℕ} {h six seven next : ℕ} {typs counts starts lens : List ℕ}
+    (pass : Passing n big at c dir h six seven next typs counts starts lens) (some : 0 < h) {e : Entry} (is-e : e ≡ entryAt big at dir (h - 1))
+    (low : e .tag < 65536) {six′ : ℕ} (is-six : six′ ≡ cond (leb next (e .tag)) next six) {bad : Bool} (is-bad : bad ≡ badValue n e)
+    {seven′ : ℕ} (is-seven : seven′ ≡ cond bad (e .tag) seven) where
+  abbrev Rest : List Entry
+  Rest = build (entryAt big at dir) h (c - h)
+
+  passed : (t k s l : List ℕ) → Columns at c (e ∷ Rest) t k s l → Passing n big at c dir (h - 1) six′ seven′ (e .tag) t k s l
+  passed t k s l columns =
+      let w : build (entryAt big at dir) (h - 1) (c - (h - 1)) ≡ e ∷ Rest = rw is-e (step-back (entryAt big at dir) c h some (pass .few)) in
+      record {
+        few = omega (arith, pass .few);
+        near6 = near (leb next (e .tag)) next six is-six (pass .near) (pass .near6);
+        near7 = near bad (e .tag) seven is-seven (omega arith) (pass .near7);
+        near = omega arith;
+        seen = rw (w, is-six, is-seven, is-bad) (seen-front n Rest six seven next e (pass .seen) low);
+        columns = rw w columns;
+      }
+
+  -- a tag of the table, with its slot
+  pub turn-in : {k : ℕ} → k ≡ indexOf (e .tag) tags → k < 21
+      → Passing n big at c dir (h - 1) six′ seven′ (e .tag) (set typs k (e .typ)) (set counts k (e .count)) (set starts k (e .start)) (set lens k (e .len))
+  turn-in {k} q l = passed _ _ _ _ (columns-in e Rest at c typs counts starts lens (pass .columns) k q l)
+
+  -- another one
+  pub turn-out : {listed : Bool} → listed ≡ inCell (e .tag) → listed ≡ false → Passing n big at c dir (h - 1) six′ seven′ (e .tag) typs counts starts lens
+  turn-out q o =
+      let out : 21 ≤ indexOf (e .tag) tags = omega (arith, cell-none (e .tag) (sym q ∙ o)) in
+      passed _ _ _ _ (columns-out e Rest at c typs counts starts lens (pass .columns) out)
+
+module _ {n : ℕ} {big : Bool} {at c : ℕ} {dir : List ℕ} {i six seven next : ℕ} {typs counts starts lens : List ℕ}
+    (pass : Passing n big at c dir i six seven next typs counts starts lens) (done : i ≤ 0) where
+  all-entries : build (entryAt big at dir) i (c - i) ≡ entries big at c dir
   unfolding entries
-  rest-whole = let e : c - 0 ≡ c = omega arith in rw e
+  all-entries = let z : i ≡ 0 = omega arith in rw (z, sub-zero)
 
-  pub rest-none : rest c ≡ []
-  rest-none = build-end (entryAt big at dir) c
-
-  pub six-none : told 65536 ≡ rule6 (rest c)
-  unfolding told rule6 ascending
-  six-none = rw (build-end (entryAt big at dir) c)
-
-  pub seven-none : (n : ℕ) → told 65536 ≡ rule7 n (rest c)
-  unfolding told rule7 firstBad
-  seven-none n = rw (build-end (entryAt big at dir) c)
-
-  pub next-none : 65536 ≡ firstTag (rest c)
-  next-none = rw (build-end (entryAt big at dir) c)
-
-  -- entry h - 1 comes in front of those from h on
-  module _ (h : ℕ) (p : 0 < h) (q : h ≤ c) (e : Entry) (is : e ≡ entryAt big at dir (h - 1)) where
-    back : rest (h - 1) ≡ e ∷ rest h
-    back =
-        let w : h - 1 + 1 ≡ h = omega arith in
-        rw (is) (build-step (entryAt big at dir) (h - 1) c (omega arith) ∙ ap (λ (j : ℕ). entryAt big at dir (h - 1) ∷ rest j) w)
-
-    pub turn-next : e .tag ≡ firstTag (rest (h - 1))
-    turn-next = sym (ap firstTag back)
-
-    pub turn6 : (six r next : ℕ) → told six ≡ rule6 (rest h) → next ≡ firstTag (rest h) → e .tag < 65536
-        → r ≡ cond (ltb (e .tag) next) six next → told r ≡ rule6 (rest (h - 1))
-    turn6 six r next s n l g =
-        ap told g ∙ told-six (e .tag) six next l
-        ∙ (λ i. cond (ltb (e .tag) (n i)) (s i) (broken (n i))) ∙ sym (front6 e (rest h) l) ∙ sym (ap rule6 back)
-
-    pub turn7 : (n : ℕ) (bad : Bool) (seven r : ℕ) → told seven ≡ rule7 n (rest h) → bad ≡ badValue n e → e .tag < 65536
-        → r ≡ cond bad (e .tag) seven → told r ≡ rule7 n (rest (h - 1))
-    unfolding rule7 firstBad
-    turn7 n bad seven r s b l g =
-        ap told g ∙ told-seven bad (e .tag) seven l ∙ (λ i. cond (b i) (broken (e .tag)) (s i)) ∙ sym (ap (rule7 n) back)
-
-    -- a store at the tag's slot, in the column of a field
-    pub turn-column : (field : Entry → ℕ) → set (column field (rest h)) (indexOf (e .tag) tags) (field e) ≡ column field (rest (h - 1))
-    unfolding column fieldOf
-    turn-column field = rw back (set-index (e .tag) (field e) (λ (t : ℕ). fieldOf field t (rest h)) tags tags-distinct)
-
-    -- and in one that has more numbers behind it
-    pub turn-front : (field : Entry → ℕ) (tail : List ℕ) → indexOf (e .tag) tags < 21
-        → set (column field (rest h) ++ tail) (indexOf (e .tag) tags) (field e) ≡ column field (rest (h - 1)) ++ tail
-    turn-front field tail l =
-        set-append-left (column field (rest h)) tail (indexOf (e .tag) tags) (field e) (subst (λ (k : ℕ). indexOf (e .tag) tags < k) (sym (column-length field (rest h))) l)
-        ∙ ap (λ (xs : List ℕ). xs ++ tail) (turn-column field)
-
-    -- a tag that is not in the table changes no column
-    pub turn-out : (field : Entry → ℕ) → 21 ≤ indexOf (e .tag) tags → column field (rest h) ≡ column field (rest (h - 1))
-    turn-out field out =
-        sym (set-out (column field (rest h)) (indexOf (e .tag) tags) (field e) (subst (λ (k : ℕ). k ≤ indexOf (e .tag) tags) (sym (column-length field (rest h))) out))
-        ∙ turn-column field
-
-    -- the four columns, as the pass stores to them: k is the tag's slot
-    module _ (xs : List ℕ) (k : ℕ) (slot : k ≡ indexOf (e .tag) tags) where
-      pub typs-in : xs ≡ typsOf (rest h) → set xs k (e .typ) ≡ typsOf (rest (h - 1))
-      unfolding typsOf
-      typs-in is = ap₂ (λ (l : List ℕ) (j : ℕ). set l j (e .typ)) is slot ∙ turn-column (λ (x : Entry). x .typ)
-
-      pub counts-in : xs ≡ countsOf (rest h) → set xs k (e .count) ≡ countsOf (rest (h - 1))
-      unfolding countsOf
-      counts-in is = ap₂ (λ (l : List ℕ) (j : ℕ). set l j (e .count)) is slot ∙ turn-column (λ (x : Entry). x .count)
-
-      pub starts-in : xs ≡ startsOf at (rest h) → k < 21 → set xs k (e .start) ≡ startsOf at (rest (h - 1))
-      unfolding startsOf
-      starts-in is l =
-          ap₂ (λ (l : List ℕ) (j : ℕ). set l j (e .start)) is slot
-          ∙ turn-front (λ (x : Entry). x .start) (0 ∷ at ∷ []) (subst (λ (j : ℕ). j < 21) slot l)
-
-      pub lens-in : xs ≡ lensOf c (rest h) → k < 21 → set xs k (e .len) ≡ lensOf c (rest (h - 1))
-      unfolding lensOf
-      lens-in is l =
-          ap₂ (λ (l : List ℕ) (j : ℕ). set l j (e .len)) is slot
-          ∙ turn-front (λ (x : Entry). x .len) (8 ∷ dirLen c ∷ []) (subst (λ (j : ℕ). j < 21) slot l)
-
-    module _ (out : 21 ≤ indexOf (e .tag) tags) where
-      pub typs-out : typsOf (rest h) ≡ typsOf (rest (h - 1))
-      unfolding typsOf
-      typs-out = turn-out (λ (x : Entry). x .typ) out
-
-      pub counts-out : countsOf (rest h) ≡ countsOf (rest (h - 1))
-      unfolding countsOf
-      counts-out = turn-out (λ (x : Entry). x .count) out
-
-      pub starts-out : startsOf at (rest h) ≡ startsOf at (rest (h - 1))
-      unfolding startsOf
-      starts-out = ap (λ (l : List ℕ). l ++ (0 ∷ at ∷ [])) (turn-out (λ (x : Entry). x .start) out)
-
-      pub lens-out : lensOf c (rest h) ≡ lensOf c (rest (h - 1))
-      unfolding lensOf
-      lens-out = ap (λ (l : List ℕ). l ++ (8 ∷ dirLen c ∷ [])) (turn-out (λ (x : Entry). x .len) out)
+  pub pass-end : {o₆ o₇ : Outcome} {v w : Verdict} {offset : ℕ} → o₇ ≡ toldBy seven → v ≡ orElse 7 o₇ (verdict 0 0) → o₆ ≡ toldBy six → w ≡ orElse 6 o₆ v → offset ≡ num big 4 dir (2 + 12 * c)
+      → (record { verdict = w; next = offset } ≡ scannedOf (record { size = n; big = big; at = at }) c dir) × ((typs ≡ typColumn (entries big at c dir))
+      × ((counts ≡ countColumn (entries big at c dir)) × ((starts ≡ startColumn at (entries big at c dir)) × (lens ≡ lenColumn c (entries big at c dir)))))
+  unfolding scannedOf entryRules first nextOffset
+  pass-end a p b q r =
+      let k : Columns at c (entries big at c dir) typs counts starts lens = rw (← all-entries) (pass .columns) in
+      (rw (q, b, p, a, r, ← all-entries, pass .seen .rises, pass .seen .fits), (k .typs-are, (k .counts-are, (k .starts-are, k .lens-are))))

@@ -1,7 +1,7 @@
 -- What one pass over a directory finds of the table's tags: a column of numbers for each field of an entry, in the table's order; and the
 -- full reading list as two columns. Assumes nothing.
 use Prim.Native.Nat.{ℕ}
-use mathlib.Core.Bool.{Bool, cond}
+use mathlib.Core.Bool.{cond}
 use mathlib.Core.List.{List, [], _∷_, _++_, map}
 use lib.Dec.{eqb}
 use Rattle.paper.specs.Layout.{dirLen}
@@ -21,16 +21,16 @@ fieldOf field t (e ∷ es) = cond (eqb (e .tag) t) (field e) (fieldOf field t es
 unfoldable pub column : (Entry → ℕ) → List Entry → List ℕ
 column field es = map (λ t. fieldOf field t es) tags
 
-unfoldable pub typsOf : List Entry → List ℕ
-typsOf es = column (λ e. e .typ) es
+unfoldable pub typColumn : List Entry → List ℕ
+typColumn es = column (λ e. e .typ) es
 
-unfoldable pub countsOf : List Entry → List ℕ
-countsOf es = column (λ e. e .count) es
+unfoldable pub countColumn : List Entry → List ℕ
+countColumn es = column (λ e. e .count) es
 
 -- the starts of the values of the table's tags, of the head and of the directory
-unfoldable pub startsOf : ℕ → List Entry → List ℕ
-startsOf at es = column (λ e. e .start) es ++ (0 ∷ at ∷ [])
+unfoldable pub startColumn : ℕ → List Entry → List ℕ
+startColumn at es = column (λ e. e .start) es ++ (0 ∷ at ∷ [])
 
 -- and their lengths
-unfoldable pub lensOf : ℕ → List Entry → List ℕ
-lensOf c es = column (λ e. e .len) es ++ (8 ∷ dirLen c ∷ [])
+unfoldable pub lenColumn : ℕ → List Entry → List ℕ
+lenColumn c es = column (λ e. e .len) es ++ (8 ∷ dirLen c ∷ [])

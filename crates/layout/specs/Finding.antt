@@ -1,19 +1,12 @@
--- What one pass over a directory keeps: where a rule is broken, and where the tags of the table stand. Assumes nothing.
-use Prim.Native.Nat.{ℕ, suc, _+_, _-_, _*_, _/_, _%_}
+-- Where the tags of the table stand: each in its cell, and in the entries of a directory. Assumes nothing.
+use Prim.Native.Nat.{ℕ, _+_, _-_, _*_, _/_, _%_}
 use mathlib.Core.Bool.{Bool, cond}
-use mathlib.Core.List.{List, [], _∷_, map}
+use mathlib.Core.List.{List, [], _∷_}
 use lib.Dec.{eqb}
 use lib.ListN.{getD}
 use Rattle.paper.specs.Layout.{entryAt}
 use Rattle.paper.specs.Tags.{absent}
-use Rattle.layout.specs.Columns.{tags}
 use Rattle.paper.specs.declared.Entry.{Entry}
-use Rattle.paper.specs.declared.Outcome.{Outcome}
-use Rattle.paper.specs.declared.Outcome.the-variants.{Kept as kept, Broken as broken}
-
--- what a number tells of a rule whose place is a tag: 65536, which no tag is, that it is kept
-unfoldable pub told : ℕ → Outcome
-told p = cond (eqb p 65536) kept (broken p)
 
 -- the cell of a tag, of 32
 unfoldable pub cellOf : ℕ → ℕ
@@ -41,10 +34,6 @@ placeFrom t i (e ∷ es) = cond (eqb (e .tag) t) (i + 1) (placeFrom t (i + 1) es
 
 abbrev pub placeIn : ℕ → List Entry → ℕ
 placeIn t es = placeFrom t 0 es
-
--- the place of each tag of the table
-unfoldable pub places : List Entry → List ℕ
-places es = map (λ t. placeIn t es) tags
 
 -- the entry of a place of a directory
 unfoldable pub foundOf : Bool → ℕ → List ℕ → ℕ → Entry

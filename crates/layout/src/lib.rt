@@ -1,33 +1,37 @@
-// The layout of a file: its head, its count and its directory, rules 1 to 8; where the tags of the table stand; an entry's value.
+// The layout of a file: its head, and of a directory its offset, its count and its entries, rules 1 to 7; where the tags of the table stand; an
+// entry's value.
 ghost use mathlib.Core.Path.{_≡_};
-ghost use mathlib.Core.Bool.{true, cond, not, _||_};
+ghost use mathlib.Core.Bool.{true, _||_};
+ghost use mathlib.Core.List.{[]};
 ghost use Prim.Native.Nat.{_+_, _*_, _≤_, _<_};
-ghost use lib.Dec.{eqb, ltb};
+ghost use lib.Dec.{ltb};
 ghost use lib.ListN.{length};
 ghost use Rattle.paper.specs.Bytes.{run};
-ghost use Rattle.paper.specs.Outcome.{breaks, verdict, orElse, first};
 ghost use Rattle.paper.specs.declared.Outcome.the-variants.{Kept as kept};
-ghost use Rattle.paper.specs.Layout.{odd, isBig, dirLen, rule1, rule2, sizeOf, entryOf, entries, badValue};
-ghost use Rattle.paper.specs.Judge.{dirRules};
-ghost use Rattle.layout.specs.Opening.{headedOf, countedOf, openedOf};
-ghost use Rattle.layout.specs.Finding.{told, cellOf, cellTags, cellSlots, inCell};
+ghost use Rattle.paper.specs.Layout.{odd, isBig, dirLen, rule2, sizeOf, entryOf, entries, badValue};
 ghost use Rattle.paper.specs.Tests.{indexOf};
-ghost use Rattle.layout.specs.Columns.{tags, typsOf, countsOf, startsOf, lensOf};
-ghost use mathlib.Core.List.{[]};
+ghost use Rattle.layout.specs.Opening.{markedOf, headedOf, countedOf, openedOf, scannedOf};
+ghost use Rattle.layout.specs.Finding.{cellOf, cellTags, cellSlots, inCell};
+ghost use Rattle.layout.specs.Columns.{tags, typColumn, countColumn, startColumn, lenColumn};
 use paper::Entry;
 use paper::Verdict;
 
-// What rules 1 to 4 answer: the number and place of the first broken one, or whether the file is big-endian and the directory's offset.
+// What rules 1 to 3 answer: the number and place of the first broken one, or whether the file is big-endian and the directory's offset.
 pub enum Headed {
     Bad(u32, u32),
-    Good(bool, usize),
+    Good(bool, u32),
 }
 
-// What rules 1 to 5 answer: the number and place of the first broken one, or whether the file is big-endian, the directory's offset
-// and its count.
+// What rules 4 and 5 answer for a directory at an offset: the number and place of the first broken one, or its count.
 pub enum Opened {
     Refused(u32, u32),
-    Laid(bool, usize, usize),
+    Laid(usize),
+}
+
+// What rules 6 and 7 answer for a directory, and its next offset.
+pub struct Scanned {
+    pub verdict: Verdict,
+    pub next: u32,
 }
 
 // The size of an element of a type; 0 for a type other than 1 to 12.
@@ -95,40 +99,50 @@ fn is_misplaced(start: usize, len: usize, n: usize) -> bool
     n < start + len
 }
 
-// Rules 3 and 4 of a head in its byte order, in a file of n bytes.
-fn read_marked(head: &[u8], big: bool, n: usize) -> Headed
-    requires { ⌜ (8 ≤ length (now head)) × (rule1 n ≡ kept) × (rule2 (now head) ≡ kept) × (isBig (now head) ≡ big) ⌝ }
-    ensures { λ r. ⌜ r ≡ headedOf n (now (head .entry)) ⌝ }
+// Rule 3 of a head in its byte order.
+fn read_marked(head: &[u8], big: bool) -> Headed
+    requires { ⌜ (8 ≤ length (now head)) × (rule2 (now head) ≡ kept) × (isBig (now head) ≡ big) ⌝ }
+    ensures { λ r. ⌜ r ≡ markedOf (now (head .entry)) ⌝ }
 {
     if order::short(head, big, 2) != 42 {
         return Headed::Bad(3, 0);
     }
-    let at = order::long(head, big, 4);
-    if is_misplaced(at, 2, n) {
-        return Headed::Bad(4, 0);
-    }
-    Headed::Good(big, at)
+    Headed::Good(big, order::long(head, big, 4) as u32)
 }
 
-// Rules 2 to 4, over the first 8 bytes of a file of n bytes.
-fn read_head(head: &[u8], n: usize) -> Headed
-    requires { ⌜ (8 ≤ length (now head)) × (rule1 n ≡ kept) ⌝ }
-    ensures { λ r. ⌜ r ≡ headedOf n (now (head .entry)) ⌝ }
+// Rules 2 and 3, over the first 8 bytes of a file.
+fn read_mark(head: &[u8]) -> Headed
+    requires { ⌜ 8 ≤ length (now head) ⌝ }
+    ensures { λ r. ⌜ r ≡ markedOf (now (head .entry)) ⌝ }
 {
     let mark = head[0];
     if head[1] != mark {
         return Headed::Bad(2, 0);
     }
     if mark == 0x49 {
-        return read_marked(head, false, n);
+        return read_marked(head, false);
     }
     if mark == 0x4D {
-        return read_marked(head, true, n);
+        return read_marked(head, true);
     }
     Headed::Bad(2, 0)
 }
 
-// Rule 5, of a file whose directory is at a place.
+// Rules 1 to 3.
+pub fn read_head(file: &[u8]) -> Headed
+    ensures { λ r. ⌜ r ≡ headedOf (now (file .entry)) ⌝ }
+{
+    let n = file.len();
+    if n < 8 {
+        return Headed::Bad(1, 0);
+    }
+    if 4294967295 < n {
+        return Headed::Bad(1, 0);
+    }
+    read_mark(&file[..8])
+}
+
+// Rule 5, of a directory that starts at a place.
 fn read_count(file: &[u8], big: bool, at: usize) -> Opened
     requires { ⌜ (at + 2 ≤ length (now file)) × (length (now file) ≤ 4294967295) ⌝ }
     ensures { λ r. ⌜ r ≡ countedOf (now (file .entry)) (record { size = length (now (file .entry)); big = big; at = at }) ⌝ }
@@ -143,25 +157,19 @@ fn read_count(file: &[u8], big: bool, at: usize) -> Opened
     if file.len() < at + (2 + 12 * c + 4) {
         return Opened::Refused(5, 0);
     }
-    Opened::Laid(big, at, c)
+    Opened::Laid(c)
 }
 
-// Rules 1 to 5.
-pub fn open(file: &[u8]) -> Opened
-    ensures { λ r. ⌜ r ≡ openedOf (now (file .entry)) ⌝ }
+// Rules 4 and 5, of a directory at an offset.
+pub fn open(file: &[u8], big: bool, at: u32) -> Opened
+    requires { ⌜ length (now file) ≤ 4294967295 ⌝ }
+    ensures { λ r. ⌜ r ≡ openedOf (now (file .entry)) (record { size = length (now (file .entry)); big = big; at = at }) ⌝ }
 {
-    let n = file.len();
-    if n < 8 {
-        return Opened::Refused(1, 0);
+    let start = at as usize;
+    if is_misplaced(start, 2, file.len()) {
+        return Opened::Refused(4, 0);
     }
-    if 4294967295 < n {
-        return Opened::Refused(1, 0);
-    }
-    let head = read_head(&file[..8], n);
-    match head {
-        Headed::Bad(number, place) => Opened::Refused(number, place),
-        Headed::Good(big, at) => read_count(file, big, at),
-    }
+    read_count(file, big, start)
 }
 
 // Rule 7 at one entry.
@@ -176,28 +184,6 @@ fn bad_value(e: Entry, n: usize) -> bool
         return false;
     }
     0 < size_of(e.typ)
-}
-
-// Rule 6 with one tag more in front of those that gave `six`, the first of which is `next`: a place, or 65536 where it is kept.
-fn step6(six: usize, tag: usize, next: usize) -> usize
-    requires { ⌜ (six ≤ 65536) × (next ≤ 65536) ⌝ }
-    ensures { λ r. ⌜ (r ≡ cond (ltb tag next) six next) × (r ≤ 65536) ⌝ }
-{
-    if tag < next {
-        return six;
-    }
-    next
-}
-
-// Rule 7 with one entry more in front of those that gave `seven`.
-fn step7(seven: usize, bad: bool, tag: usize) -> usize
-    requires { ⌜ (seven ≤ 65536) × (tag < 65536) ⌝ }
-    ensures { λ r. ⌜ (r ≡ cond bad tag seven) × (r ≤ 65536) ⌝ }
-{
-    if bad {
-        return tag;
-    }
-    seven
 }
 
 // The tags of the table, each in its cell of 32, and a tag of another cell in every cell that is left.
@@ -312,37 +298,8 @@ fn slot_of(slots: &[u8; 32], tag: usize) -> usize
     wide_slot(slots[cell])
 }
 
-// The verdict of rules 6 to 8 from the places of rules 6 and 7, 65536 where they are kept, and the next offset.
-fn directory_verdict(six: usize, seven: usize, next: usize) -> Verdict
-    requires { ⌜ (six ≤ 65536) × (seven ≤ 65536) ⌝ }
-    ensures { λ r. ⌜ r ≡ orElse 6 (told six) (orElse 7 (told seven) (orElse 8 (breaks (not (eqb next 0)) 0) (verdict 0 0))) ⌝ }
-{
-    if six != 65536 {
-        return Verdict {
-            number: 6,
-            place: six as u32,
-        };
-    }
-    if seven != 65536 {
-        return Verdict {
-            number: 7,
-            place: seven as u32,
-        };
-    }
-    if next != 0 {
-        return Verdict {
-            number: 8,
-            place: 0,
-        };
-    }
-    Verdict {
-        number: 0,
-        place: 0,
-    }
-}
-
-// Rules 6 to 8, and a column of each field of the table's tags, in one pass from the last entry to the first: at each turn all is known of the
-// entries from i on. The columns are lent as those of no entry; the starts and lengths end with those of the head and of the directory.
+// Rules 6 and 7, the next offset, and a column of each field of the table's tags, in one pass from the last entry to the first: at each turn all is
+// known of the entries from i on. The columns are lent as those of no entry; the starts and lengths end with those of the head and of the directory.
 pub fn scan(
     cells: &[u16; 32],
     slots: &[u8; 32],
@@ -355,24 +312,26 @@ pub fn scan(
     counts: &mut [usize; 21],
     starts: &mut [usize; 23],
     lens: &mut [usize; 23],
-) -> Verdict
-    requires { ⌜ (dirLen c ≤ length (now dir)) × (0 < c) × (c ≤ 1024) × (at + dirLen c ≤ n) × (n ≤ 4294967295) × (now typs ≡ typsOf []) × (now counts ≡ countsOf []) × (now starts ≡ startsOf at []) × (now lens ≡ lensOf c []) × (now cells ≡ cellTags) × (now slots ≡ cellSlots) ⌝ }
-    ensures verdict { λ r. ⌜ r ≡ first (dirRules (record { size = n; big = big; at = at }) c (now (dir .entry)) (entries big at c (now (dir .entry)))) ⌝ }
-    ensures typs { λ _. ⌜ now (typs .exit) ≡ typsOf (entries big at c (now (dir .entry))) ⌝ }
-    ensures counts { λ _. ⌜ now (counts .exit) ≡ countsOf (entries big at c (now (dir .entry))) ⌝ }
-    ensures starts { λ _. ⌜ now (starts .exit) ≡ startsOf at (entries big at c (now (dir .entry))) ⌝ }
-    ensures lens { λ _. ⌜ now (lens .exit) ≡ lensOf c (entries big at c (now (dir .entry))) ⌝ }
+) -> Scanned
+    requires { ⌜ (dirLen c ≤ length (now dir)) × (0 < c) × (c ≤ 1024) × (at + dirLen c ≤ n) × (n ≤ 4294967295) × (now typs ≡ typColumn []) × (now counts ≡ countColumn []) × (now starts ≡ startColumn at []) × (now lens ≡ lenColumn c []) × (now cells ≡ cellTags) × (now slots ≡ cellSlots) ⌝ }
+    ensures scanned { λ r. ⌜ r ≡ scannedOf (record { size = n; big = big; at = at }) c (now (dir .entry)) ⌝ }
+    ensures typs { λ _. ⌜ now (typs .exit) ≡ typColumn (entries big at c (now (dir .entry))) ⌝ }
+    ensures counts { λ _. ⌜ now (counts .exit) ≡ countColumn (entries big at c (now (dir .entry))) ⌝ }
+    ensures starts { λ _. ⌜ now (starts .exit) ≡ startColumn at (entries big at c (now (dir .entry))) ⌝ }
+    ensures lens { λ _. ⌜ now (lens .exit) ≡ lenColumn c (entries big at c (now (dir .entry))) ⌝ }
 {
-    let mut six = 65536;
-    let mut seven = 65536;
-    let mut next = 65536;
+    let mut six = outcomes::NONE;
+    let mut seven = outcomes::NONE;
+    let mut next = outcomes::NONE;
     let mut i = c;
     while 0 < i {
         i -= 1;
         let e = entry_at(dir, big, at, 2 + 12 * i);
-        six = step6(six, e.tag, next);
-        seven = step7(seven, bad_value(e, n), e.tag);
+        // Rule 6: a tag is below the next one.
+        six = outcomes::broken_or(next <= e.tag, next, six);
         next = e.tag;
+        // Rule 7: the count is not 0, and the value lies in the file.
+        seven = outcomes::broken_or(bad_value(e, n), e.tag, seven);
         if is_listed(cells, e.tag) {
             let k = slot_of(slots, e.tag);
             typs[k] = e.typ;
@@ -381,7 +340,15 @@ pub fn scan(
             lens[k] = e.len;
         }
     }
-    directory_verdict(six, seven, order::long(dir, big, 2 + 12 * c))
+    let none = Verdict {
+        number: 0,
+        place: 0,
+    };
+    let last = outcomes::or_else(7, outcomes::told(seven), none);
+    Scanned {
+        verdict: outcomes::or_else(6, outcomes::told(six), last),
+        next: order::long(dir, big, 2 + 12 * c) as u32,
+    }
 }
 
 // The bytes of a value, a part of the file.

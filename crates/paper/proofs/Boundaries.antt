@@ -7,7 +7,7 @@ use mathlib.Core.List.{List, [], _∷_, _++_, map}
 use lib.ListN.{replicate}
 use Rattle.paper.specs.Bytes.{build}
 use Rattle.paper.specs.Outcome.{Outcome, kept, broken}
-use Rattle.paper.specs.Layout.{dirAt, rule1, rule2, rule3, rule4, rule5, sizeOf, entries, rule6, rule7, rule8}
+use Rattle.paper.specs.Layout.{dirAt, rule1, rule2, rule3, rule4, rule5, sizeOf, entries, rule6, rule7, nextOffset, rule8}
 use Rattle.paper.proofs.Computed.{computed}
 use Rattle.paper.proofs.Files.{written}
 use Rattle.paper.specs.declared.Entry.{Entry}
@@ -159,8 +159,8 @@ unfolding to seven computed
 rule-7-start = refl
 
 -- the next offset, behind two entries: each of its four bytes
-pub rule-8 : map (λ next. rule8 false 2 (directory false (replicate 12 1) (replicate 12 1) next)) (0 ∷ 1 ∷ 256 ∷ 65536 ∷ 16777216 ∷ [])
-    ++ map (λ next. rule8 true 2 (directory true (replicate 12 1) (replicate 12 1) next)) (0 ∷ 1 ∷ 16777216 ∷ [])
+pub rule-8 : map (λ next. rule8 (nextOffset false 2 (directory false (replicate 12 1) (replicate 12 1) next))) (0 ∷ 1 ∷ 256 ∷ 65536 ∷ 16777216 ∷ [])
+    ++ map (λ next. rule8 (nextOffset true 2 (directory true (replicate 12 1) (replicate 12 1) next))) (0 ∷ 1 ∷ 16777216 ∷ [])
     ≡ kept ∷ broken 0 ∷ broken 0 ∷ broken 0 ∷ broken 0 ∷ kept ∷ broken 0 ∷ broken 0 ∷ []
 unfolding directory written computed
 rule-8 = refl

@@ -1,20 +1,20 @@
 -- What a kept rule gives to code: that what it reads lies in the file. Assumes nothing.
-use Prim.Native.Nat.{ℕ, zero, suc, _+_, _-_, _*_, _≤_, _<_, zero-le, suc-le-suc}
+use Prim.Native.Nat.{ℕ, zero, suc, _+_, _*_, _≤_, _<_, zero-le, suc-le-suc}
 use mathlib.Core.Path.{_≡_, refl, sym, ap, ap₂, _∙_, subst}
-use mathlib.Core.Bool.{Bool, true, false, cond, not, _&&_, _||_, true≢false, and-false}
-use mathlib.Core.List.{List, [], _∷_, _++_, map}
-use native.Mathlib.Nat.{zero-add, not-suc-le-zero, le-of-suc-le-suc}
+use mathlib.Core.Bool.{Bool, true, false, not, _&&_, _||_, true≢false, and-false}
+use mathlib.Core.List.{List, [], _∷_}
+use native.Mathlib.Nat.{zero-add}
 use native.Mathlib.Omega.{arith}
 use lib.Dec.{eqb, leb, ltb}
 use lib.ListN.{length, getD, List·getD-eq-default}
-use borrow.Author.Tests.{eqb-true, eqb-false, ltb-true, ltb-false, leb-true, leb-false, lt-ltb, le-leb, lt-leb, not-false}
-use Rattle.paper.specs.Bytes.{run, num, build}
-use Rattle.paper.specs.Outcome.{Outcome, kept, first}
-use Rattle.paper.specs.Layout.{odd, dirLen, sizes, sizeOf, typed, badValue, entryAt, entryOf, startOf, entries, rule1, rule4, rule5, rule7}
-use Rattle.paper.specs.Tests.{all, some}
-use Rattle.paper.specs.Tags.{Line, line, no, any, has, fitsLine, misfits, rule10, Held, hold, find, absent, listed, inTable, table, bytesOf}
-use Rattle.paper.proofs.Loops.{findEntry, find-entry}
-use Rattle.paper.proofs.Laws.{all-at, breaks-kept, or-false, and-eq, kept-all, run-length-in, length-build, getD-build}
+use borrow.Author.Tests.{eqb-false, ltb-false, leb-true, leb-false, lt-ltb, le-leb, lt-leb, not-false}
+use Rattle.paper.specs.Bytes.{num, build}
+use Rattle.paper.specs.Outcome.{kept}
+use Rattle.paper.specs.Layout.{odd, dirLen, sizes, sizeOf, typed, badValue, entryAt, entryOf, startOf, entries, rule4, rule5, rule7}
+use Rattle.paper.specs.Tests.{some}
+use Rattle.paper.specs.Tags.{Line, line, no, any, has, fitsLine, misfits, rule10, Held, find, absent, listed, inTable}
+use Rattle.paper.proofs.Loops.{findEntry}
+use Rattle.paper.proofs.Laws.{breaks-kept, or-false, and-eq, kept-all, length-build, getD-build}
 use Rattle.paper.specs.declared.Entry.{Entry}
 
 pub record DirectoryAt (n at : ℕ) : Type 0 where
@@ -136,18 +136,10 @@ module _ (big : Bool) (at : ℕ) (dir : List ℕ) (p t k c z : ℕ) (is-t : t �
       let s′ = s ∙ ap (startOf big at dir p) len-is in
       λ i. record { tag = is-t i; typ = is-k i; count = is-c i; start = s′ i; len = len-is i }
 
--- sizes: beyond the table 0, and at most 8
+-- a type beyond the table has size 0
 pub size-past : (k : ℕ) → 13 ≤ k → sizeOf k ≡ 0
 unfolding sizeOf
 size-past k h = List·getD-eq-default sizes 0 h
-
-pub sizes-low : all (λ x. leb x 8) sizes ≡ true
-unfolding all
-sizes-low = refl
-
-pub size-low : (k : ℕ) → k < 13 → sizeOf k ≤ 8
-unfolding sizeOf
-size-low k h = leb-true _ _ (all-at (λ (x : ℕ). leb x 8) sizes 0 sizes-low k h)
 
 -- ---- rule 10 kept: a present tag of the table is as its line says
 

@@ -1,17 +1,15 @@
 -- A call's answer where the rules of a file are kept, and where one is broken; and that the judgement's verdict is that of the rules.
 -- Assumes nothing.
 use Prim.Native.Nat.{ℕ}
-use mathlib.Core.Path.{_≡_, refl, sym, ap, _∙_}
-use mathlib.Core.Bool.{Bool, true, false, cond}
+use mathlib.Core.Path.{_≡_, refl, sym, _∙_}
+use mathlib.Core.Bool.{Bool, true, false}
 use mathlib.Core.List.{List}
-use lib.Dec.{eqb}
 use borrow.Author.Tests.{eq-eqb, ne-eqb, eqb-true}
 use Rattle.paper.specs.Outcome.{verdict}
 use Rattle.paper.specs.Judge.{View, view, verdictOf, rules}
 use Rattle.paper.specs.Calls.{accepts, answer, judgedOf, judgedIn}
 use Rattle.paper.proofs.First.{first-kept, verdict-rules, all-kept}
 use Rattle.paper.specs.declared.Verdict.{Verdict}
-use Rattle.paper.specs.declared.Judged.{Judged}
 
 pub answer-good : {A : Type 0} (f : List ℕ) (good : View → A) (bad : Verdict → A) → verdictOf f .number ≡ 0 → answer f good bad ≡ good (view f)
 unfolding answer

@@ -1,47 +1,25 @@
 -- A citation is the part of the file that it is said to be, and it lies in the value of 34737: so it is the same in files that agree on the
 -- reading list. Assumes nothing.
-use Prim.Native.Nat.{ℕ, zero, suc, _+_, _-_, _*_, _≤_, _<_, min}
-use mathlib.Core.Path.{_≡_, refl, sym, ap, ap₂, _∙_, subst}
-use mathlib.Core.Bool.{Bool, true, false, cond, not, _||_, _&&_, false≢true}
-use mathlib.Core.List.{List, [], _∷_, _++_, map}
+use Prim.Native.Nat.{ℕ, _+_, _-_, _≤_}
+use mathlib.Core.Path.{_≡_, refl, sym, ap, _∙_, subst}
+use mathlib.Core.Bool.{Bool, true, false, cond, _&&_, false≢true}
+use mathlib.Core.List.{List, [], _∷_}
 use native.Mathlib.Omega.{arith}
-use lib.Dec.{T, eqb, leb, ltb}
-use lib.ListN.{length, getD}
-use borrow.Author.Tests.{eqb-true, eqb-false, leb-true, ltb-true, not-false, eq-eqb}
+use lib.Dec.{eqb, leb}
+use lib.ListN.{length}
+use borrow.Author.Tests.{eqb-true, leb-true, not-false}
 use Rattle.paper.specs.Bytes.{run}
-use Rattle.paper.specs.Outcome.{Outcome, kept, broken, _▸_, first, firstBad, breaks, verdict}
-use Rattle.paper.specs.Layout.{sizeOf}
-use Rattle.paper.specs.Tags.{Line, Held, hold, find, absent, listed, table, bytesOf}
-use Rattle.paper.specs.Keys.{Runs, keys, keyRules, rule17, misplaced, rightPlace, within, room, kindOf, kindIn, knownKeys, findKey, hasKey, noKey}
-use Rattle.paper.specs.Judge.{View, view, verdictOf, rules, readingList, runsOf, headIn, viewAt, entriesIn}
-use Rattle.paper.specs.Judge.{headRules, countRules, dirRules, viewRules, tagRules}
+use Rattle.paper.specs.Outcome.{kept, _▸_, first, firstBad}
+use Rattle.paper.specs.Tag
+use Rattle.paper.specs.Keys.{Runs, keys, rule17, misplaced, rightPlace, within, room, kindOf, kindIn, knownKeys, findKey, hasKey}
+use Rattle.paper.specs.Judge.{View, view, verdictOf, readingList, runsOf, viewAt}
 use Rattle.paper.specs.Calls.{accepts, answer, citation, citedOf, citedIn, startsOf, rule26}
 use Rattle.paper.specs.Asked.{Agree}
-use Rattle.paper.proofs.Laws.{and-eq, kept-cond, run-run, run-length}
-use Rattle.paper.proofs.First.{all-kept}
+use Rattle.paper.proofs.Laws.{and-eq, kept-cond}
+use Rattle.paper.proofs.Keeps.{rule17-kept}
+use Rattle.paper.proofs.Held.{tag-part}
 use Rattle.paper.proofs.Unseen.{answer-same}
-use Rattle.paper.specs.declared.Verdict.{Verdict}
-use Rattle.paper.specs.declared.Entry.{Entry}
 use Rattle.paper.specs.declared.KeyEntry.{KeyEntry}
-
-absent-bytes : (tb : List Line) (f : List ℕ) → [] ≡ hold tb f (record { tag = 0; typ = 0; count = 0; start = 0; len = 0 }) .bytes
-unfolding hold
-absent-bytes tb f = go (listed tb (absent .entry))
-  where
-    go : (b : Bool) → [] ≡ cond b (run f 0 0) []
-    go true = refl
-    go false = refl
-
--- the bytes that are held for a tag are those of its entry
-pub held-bytes : (tb : List Line) (f : List ℕ) (t : ℕ) (es : List Entry) → find t (map (hold tb f) es) .bytes ≡ hold tb f (find t (map (hold tb f) es) .entry) .bytes
-unfolding find hold
-held-bytes tb f t [] = absent-bytes tb f
-held-bytes tb f t (e ∷ es) = go (eqb (e .tag) t) refl (held-bytes tb f t es)
-  where
-    go : (b : Bool) → eqb (e .tag) t ≡ b → find t (map (hold tb f) es) .bytes ≡ hold tb f (find t (map (hold tb f) es) .entry) .bytes
-        → find t (map (hold tb f) (e ∷ es)) .bytes ≡ hold tb f (find t (map (hold tb f) (e ∷ es)) .entry) .bytes
-    go true p r = rw p
-    go false p r = rw p r
 
 -- a key that is found is one of the keys, so it is not bad where none is
 pub found-kept : (bad : KeyEntry → Bool) (place : KeyEntry → ℕ) (k : ℕ) (ks : List KeyEntry) → (k ≡ 0 → ⊥) → firstBad bad place ks ≡ kept
@@ -54,10 +32,6 @@ found-kept bad place k (e ∷ es) nz h p =
     go : (b : Bool) → eqb (e .key) k ≡ b → bad e ≡ false → (hasKey k es ≡ true → bad (findKey k es) ≡ false) → bad (findKey k (e ∷ es)) ≡ false
     go true q x r = rw q x
     go false q x r = rw q (r (rw q at p))
-
-pub rule17-kept : (f : List ℕ) → verdictOf f .number ≡ 0 → rule17 (runsOf (view f)) (keys (runsOf (view f))) ≡ kept
-unfolding rules headRules countRules dirRules viewRules tagRules keyRules
-rule17-kept f z = all-kept f z 17
 
 kind-zero : kindOf 0 ≡ 3
 unfolding kindOf kindIn knownKeys
@@ -95,26 +69,6 @@ accepts26 k ks h = go (eqb (kindOf k) 2 && hasKey k ks) refl
     go true e = let x = and-eq (eqb (kindOf k) 2) (hasKey k ks) e in (eqb-true _ _ (x .0), x .1)
     go false e = let w : false ≡ true = rw e at h in absurd (false≢true w)
 
--- a run within the held bytes of an entry is a run of the file
-pub hold-run : (tb : List Line) (f : List ℕ) (e : Entry) (a m : ℕ) → a + m < length (hold tb f e .bytes) → run f (e .start + a) m ≡ run (hold tb f e .bytes) a m
-unfolding hold
-hold-run tb f e a m l = go (listed tb e) refl
-  where
-    go : (b : Bool) → listed tb e ≡ b → run f (e .start + a) m ≡ run (cond (listed tb e) (run f (e .start) (e .len)) []) a m
-    go true q =
-        let x : a + m < length (run f (e .start) (e .len)) = rw q at l in
-        let y : a + m ≤ e .len = omega (arith, run-length f (e .start) (e .len)) in
-        rw q (sym (run-run f (e .start) (e .len) a m y))
-    go false q = let x : a + m < 0 = rw q at l in absurd (omega arith)
-
--- one character less than the entry has
-less-one : (a c n : ℕ) → 1 ≤ c → a + c ≤ n → a + (c - 1) < n
-less-one a c n p q = omega arith
-
-chars-held : (f : List ℕ) → runsOf (view f) .characters ≡ hold table f (find 34737 (view f .held) .entry) .bytes
-unfolding runsOf view viewAt
-chars-held f = held-bytes table f 34737 (entriesIn f (headIn f))
-
 module _ (f : List ℕ) (k : ℕ) where
   -- the key's entry
   abbrev Of : KeyEntry
@@ -122,13 +76,10 @@ module _ (f : List ℕ) (k : ℕ) where
 
   text-part : verdictOf f .number ≡ 0 → (kindOf k ≡ 2) × (hasKey k (keys (runsOf (view f))) ≡ true)
       → run f (startsOf (view f) .characters + Of .index) (Of .count - 1) ≡ run (runsOf (view f) .characters) (Of .index) (Of .count - 1)
-  unfolding startsOf
+  unfolding startsOf runsOf view viewAt
   text-part z p =
       let w = cite-within (runsOf (view f)) k (rule17-kept f z) (p .0) (p .1) in
-      let e : Entry = find 34737 (view f .held) .entry in
-      let l : Of .index + (Of .count - 1) < length (hold table f e .bytes) =
-      subst (λ (s : List ℕ). Of .index + (Of .count - 1) < length s) (chars-held f) (less-one _ _ _ (w .0) (w .1)) in
-      hold-run table f e (Of .index) (Of .count - 1) l ∙ ap (λ (s : List ℕ). run s (Of .index) (Of .count - 1)) (sym (chars-held f))
+      tag-part f Tag.characters (Of .index) (Of .count - 1) (omega (arith, w .0, w .1)) (omega (arith, w .0, w .1)) .same
 
   -- what is handed back is the text that the view shows
   pub citation-text : citation f k ≡ answer f (citedText k) (λ v. [])

@@ -1,15 +1,15 @@
 -- Numbers written one after the other, and read back: over the width. Where the values of entries stand among all of them.
 -- Assumes nothing.
-use Prim.Native.Nat.{ℕ, zero, suc, _+_, _-_, _*_, _/_, _^_, _≤_, _<_, min, zero-le, suc-le-suc}
+use Prim.Native.Nat.{ℕ, zero, suc, _+_, _*_, _^_, _≤_, _<_, zero-le, suc-le-suc}
 use mathlib.Core.Path.{_≡_, refl, sym, ap, ap₂, _∙_, subst}
-use mathlib.Core.Bool.{Bool, true, false, cond, not, _||_, _&&_}
-use mathlib.Core.List.{List, [], _∷_, _++_, map}
-use native.Mathlib.Nat.{add-zero, zero-add, add-suc, suc-add, mul-add, mul-zero, mul-suc, add-assoc, not-suc-le-zero, le-of-suc-le-suc, pow-suc}
+use mathlib.Core.Bool.{Bool, true, false, cond}
+use mathlib.Core.List.{List, [], _∷_, _++_}
+use native.Mathlib.Nat.{add-zero, zero-add, suc-add, mul-add, mul-zero, mul-suc, add-assoc, not-suc-le-zero, le-of-suc-le-suc, pow-suc}
 use native.Mathlib.Omega.{arith}
-use lib.Dec.{T, eqb, leb, ltb, lit<}
+use lib.Dec.{eqb, lit<}
 use lib.ListN.{length, getD, take, drop, length-append, length-take, length-drop}
-use lib.Seq.{getD-take, getD-drop, ext-getD, take-append-seam, drop-append-add, getD-append-add}
-use Rattle.paper.specs.Bytes.{run, num, enc, build, elems}
+use lib.Seq.{getD-take, getD-drop, ext-getD, take-append-seam, drop-append-add}
+use Rattle.paper.specs.Bytes.{num, enc, build, elems}
 use Rattle.paper.specs.Block.{joined, encs, elements, valuesAt, countAt, newIndex, withIndex, moved}
 use Rattle.paper.specs.Keys.{noKey}
 use Rattle.paper.specs.Asked.{Bytes}

@@ -1,37 +1,38 @@
 -- The demands, as theorems about the definitions of `specs/`. A file is a list of bytes. This page states; the proofs are in the files that it
 -- names. The words are in specs/: `Asked` (AllKept, FirstBroken, Agree, SameAnswers, Repainted, SameKeys), `Lent` for demand 1, `Places` for the first
--- place, `Shown` for rows, georeference, corners and pieces, `Laid` for the key block. Assumes nothing.
-use Prim.Native.Nat.{ℕ, _+_, _<_}
-use mathlib.Core.Path.{_≡_, refl, sym, ap, _∙_}
-use mathlib.Core.Bool.{true, false}
+-- place, `Shown` for rows, georeference, corners and pieces, `Laid` for the key block, `Listed` for the reading list. Assumes nothing.
+use Prim.Native.Nat.{ℕ, _≤_, _<_}
+use mathlib.Core.Path.{_≡_, refl, sym, _∙_}
+use mathlib.Core.Bool.{true, false, _&&_}
 use mathlib.Core.List.{List, [], _∷_, map}
 use lib.ListN.{length, getD}
 use Rattle.paper.specs.Outcome.{Rule, verdict}
+use Rattle.paper.specs.Tests.{keep}
 use Rattle.paper.specs.Tags.{stripTags, tileTags}
-use Rattle.paper.specs.Keys.{Runs, keyCount, keyRules}
-use Rattle.paper.specs.Judge.{headIn, entriesIn, view, runsOf, piecesOf, verdictOf, rules, readingList}
-use Rattle.paper.specs.Judge.{headRules, countRules, dirRules, viewRules, tagRules, groundRules}
+use Rattle.paper.specs.Keys.{Runs, keyCount}
+use Rattle.paper.specs.Judge.{headIn, entriesIn, view, runsOf, piecesOf, fullOf, verdictOf, rules, readingList}
 use Rattle.paper.specs.Calls.{judgedOf, readRuns}
 use Rattle.paper.specs.Block.{blockOf, blockLeft}
 use Rattle.paper.specs.Asked.{AllKept, FirstBroken, Agree, onList, SameAnswers, noPiece, Within, InPiece, Repainted, Bytes, SameKeys, lentRuns}
+use Rattle.paper.specs.Listed.{listBy}
 use Rattle.paper.specs.Lent.{Guarded, Reads}
 use Rattle.paper.specs.Places.{Places}
 use Rattle.paper.specs.Shown.{Shows}
 use Rattle.paper.specs.Laid.{LaidOut, BlockRefusals}
 use Rattle.paper.proofs.Lent.{guarded, reads}
-use Rattle.paper.proofs.First.{first-kept, first-broken, broken-first, verdict-rules, all-kept}
+use Rattle.paper.proofs.First.{first-kept, first-broken, broken-first, verdict-rules, all-kept, ruled}
 use Rattle.paper.proofs.Called.{judged-verdict}
 use Rattle.paper.proofs.Places.{places}
 use Rattle.paper.proofs.Shown.{shows}
 use Rattle.paper.proofs.Laid.{laid-out, block-refusals}
 use Rattle.paper.proofs.Settled.{laid-once}
+use Rattle.paper.proofs.Listed.{list-is, full-is}
 use Rattle.paper.proofs.Unseen.{verdict-same, judged-same, rows-same, rowsLeft-same, cited-same, text-same, block-same, blockLeft-same}
 use Rattle.paper.proofs.Citation.{citation-same}
 use Rattle.paper.proofs.Metadata.{metadata-same}
 use Rattle.paper.proofs.Picture.{pieces-within, pieces-unread, repainted-agree}
-use Rattle.paper.proofs.Kept.{carries, verdictBefore, verdict-kept}
+use Rattle.paper.proofs.Kept.{carries, tableBefore, tags-before, needed-before, verdictBefore, verdict-kept}
 use Rattle.paper.proofs.Trip.{read-accepted, read-same}
-use Rattle.paper.specs.declared.Verdict.{Verdict}
 use Rattle.paper.specs.declared.Block.{Block}
 
 -- DEMAND 1. Every call takes any bytes, whatever is lent or asked: the definitions are total, and no contract of a public call asks anything. A call on
@@ -50,7 +51,7 @@ module _ (f : List ℕ) where
   -- The rules stand in the order of their numbers, 1 to 22, with 27 directly after 8.
   pub in-order : map (λ (r : Rule). r .number) (rules f)
       ≡ 1 ∷ 2 ∷ 3 ∷ 4 ∷ 5 ∷ 6 ∷ 7 ∷ 8 ∷ 27 ∷ 9 ∷ 10 ∷ 11 ∷ 12 ∷ 13 ∷ 14 ∷ 15 ∷ 16 ∷ 17 ∷ 18 ∷ 19 ∷ 20 ∷ 21 ∷ 22 ∷ []
-  unfolding rules headRules countRules dirRules viewRules tagRules keyRules groundRules
+  unfolding ruled
   in-order = refl
 
   -- DEMAND 2. A file is accepted, verdict 0 with place 0, exactly where no rule is broken.
@@ -121,6 +122,16 @@ unseen f g n h =
       blocks = blockLeft-same f g n h;
     }
 
+-- That list is document 01's, by the verdict's number: the first 8 bytes, or all of a shorter file, and with 1 to 4 nothing else; with 5 also the count's
+-- 2 bytes; with 6 and 7 the whole directory; with 0, with 8 to 22 and with 27 also the value bytes of every entry whose tag is in the table and whose
+-- type is 1 to 12.
+pub list : (f : List ℕ) → readingList f ≡ listBy (verdictOf f .number) f
+list = list-is
+
+-- The list that rule 14 tests is the full one, that of verdict 0. Where it is tried rule 1 is kept, and so there are 8 bytes.
+pub list-full : (f : List ℕ) → 8 ≤ length f → fullOf (view f) ≡ listBy 0 f
+list-full = full-is
+
 module _ (f : List ℕ) (accepts : verdictOf f .number ≡ 0) where
   -- In an accepted file every strip or tile lies within the file, behind its head,
   pub pieces-inside : (k : ℕ) → k < length (piecesOf (view f)) → Within (length f) (getD (piecesOf (view f)) k noPiece .place)
@@ -134,12 +145,23 @@ module _ (f : List ℕ) (accepts : verdictOf f .number ≡ 0) where
   pub picture : (g : List ℕ) → Repainted f g → SameAnswers f g
   picture g r = unseen f g (r .long) (repainted-agree f g accepts r)
 
--- STRIPS STAY. A file with some strip tag (273, 278, 279) and no tile tag (322 to 325) gets the verdict and the place of document 01 by itself,
--- which is written out in `Kept`.
+-- STRIPS STAY. C-11 changed nothing for files of strips: one with some strip tag (273, 278, 279) and no tile tag (322 to 325) has the verdict and the place
+-- of `verdictBefore`, the judgement without C-11, which is written out in `Kept`. That has no rule 27, and its rules 9 to 14 go by a table without
+-- the tiles' lines and read 273, 278 and 279 alone; every other rule it shares with the verdict. So this fixes what C-11 did and no more: where a
+-- later request moves rule 6, 8 or 15, `verdictBefore` moves with it.
 pub strips-kept : (f : List ℕ) → carries stripTags (entriesIn f (headIn f)) ≡ true → carries tileTags (entriesIn f (headIn f)) ≡ false
     → verdictOf f ≡ verdictBefore f
 strips-kept f some none = verdict-kept f none some
 
+-- Its table has the tags of document 01's, and needs the same.
+pub strips-tags : map (λ l. l .tag) tableBefore
+    ≡ 256 ∷ 257 ∷ 258 ∷ 259 ∷ 262 ∷ 273 ∷ 277 ∷ 278 ∷ 279 ∷ 284 ∷ 33550 ∷ 33922 ∷ 34264 ∷ 34735 ∷ 34736 ∷ 34737 ∷ 50909 ∷ []
+strips-tags = tags-before
+
+pub strips-needed : map (λ l. l .tag) (keep (λ l. l .needed true && l .needed false) tableBefore)
+    ≡ 256 ∷ 257 ∷ 258 ∷ 259 ∷ 262 ∷ 273 ∷ 277 ∷ 278 ∷ 279 ∷ 34735 ∷ []
+strips-needed = needed-before
+
 -- The marked examples are in `Marked` (`marked`, one table), with the whole reading list of a file of each stage (`allowed`); those of tiles are in
--- `Tiled`; accepted files of either byte order with their place on the ground in `Placed`; every call on one file, byte for byte, in `FileC`; files
--- with two faults in `Faults`; both sides of the documents' numbers in `Boundaries`, `TagBoundaries` and `KeyBoundaries`; the 45 kinds in `Tables`.
+-- `Tiled`; accepted files of either byte order with their place on the ground in `Placed`; every call on one file in either order, byte for byte, in
+-- `FileC`; files with two faults in `Faults`; both sides of the documents' numbers in `Boundaries`, `TagBoundaries` and `KeyBoundaries`; the 45 kinds in `Tables`.

@@ -11,6 +11,7 @@ use Rattle.paper.specs.Outcome.{verdict}
 use Rattle.paper.specs.Tests.{some, keep}
 use Rattle.paper.specs.Judge.{verdictOf}
 use Rattle.paper.proofs.Computed.{computed}
+use Rattle.paper.proofs.Spelled.{spelled, table-spelled}
 use Rattle.paper.proofs.Marked.{changed}
 use Rattle.paper.proofs.Files.{Field, shorts, doubles, laid, front, scale, tiepoint, key, directory, keysA, fieldsA, strip}
 use Rattle.paper.proofs.Placed.{placed, turned}
@@ -51,8 +52,8 @@ layout =
     ∷ []
 
 pub layout-refused : map (λ x. verdictOf (x .file)) layout ≡ map (λ x. x .gives) layout
-unfolding layout computed
-layout-refused = refl
+unfolding layout spelled computed
+layout-refused = table-spelled (λ x. x .file) (λ x. verdictOf) (λ x. x .gives) layout refl
 
 -- ---- tags
 
@@ -147,8 +148,8 @@ tags =
     ∷ []
 
 pub tags-answered : map (λ x. verdictOf (x .file)) tags ≡ map (λ x. x .gives) tags
-unfolding tags computed
-tags-answered = refl
+unfolding tags spelled computed
+tags-answered = table-spelled (λ x. x .file) (λ x. verdictOf) (λ x. x .gives) tags refl
 
 -- ---- keys
 
@@ -177,8 +178,8 @@ keys =
     ∷ []
 
 pub keys-refused : map (λ x. verdictOf (x .file)) keys ≡ map (λ x. x .gives) keys
-unfolding keys computed
-keys-refused = refl
+unfolding keys spelled computed
+keys-refused = table-spelled (λ x. x .file) (λ x. verdictOf) (λ x. x .gives) keys refl
 
 -- ---- the place on the ground
 
@@ -223,5 +224,5 @@ ground =
     ∷ []
 
 pub ground-refused : map (λ x. verdictOf (x .file)) ground ≡ map (λ x. x .gives) ground
-unfolding ground computed
-ground-refused = refl
+unfolding ground spelled computed
+ground-refused = table-spelled (λ x. x .file) (λ x. verdictOf) (λ x. x .gives) ground refl

@@ -1,5 +1,5 @@
 -- File C, with keys at every location, in either byte order: its rows, citations, metadata text and key block, and what the lent memory then holds, byte
--- for byte; and what each call answers and leaves for a refused file. Computed. Assumes nothing.
+-- for byte; and what each call answers and leaves for file A and for refused files. Computed. Assumes nothing.
 use Prim.Native.Nat.{ℕ, _+_}
 use mathlib.Core.Path.{_≡_, refl}
 use mathlib.Core.Bool.{Bool, true, false}
@@ -10,7 +10,8 @@ use Rattle.paper.specs.Outcome.{verdict}
 use Rattle.paper.specs.Calls.{rowsOf, rowsLeft, citedOf, citation, textOf, metadataText, readBack}
 use Rattle.paper.specs.Block.{blockOf, blockLeft}
 use Rattle.paper.proofs.Computed.{computed}
-use Rattle.paper.proofs.Marked.{fileA, changed, row}
+use Rattle.paper.proofs.Spelled.{spelled, spelled-same}
+use Rattle.paper.proofs.Marked.{fileA, keys, changed, row}
 use Rattle.paper.proofs.Files.{Field, bytes, ascii, doubles, laid, front, scale, tiepoint, key, directory, strip}
 use Rattle.paper.specs.declared.Counted.{Counted}
 use Rattle.paper.specs.declared.Cited.{Cited}
@@ -66,51 +67,6 @@ rowsC =
     ∷ row 5004 3 360 2
     ∷ []
 
--- as many rows lent as there are keys; in the other byte order, one more, which keeps its content
-pub rows-C : rowsLeft (fileC false) (replicate 11 (row 7 7 7 7)) ≡ rowsC
-unfolding fileC rowsC row computed
-rows-C = refl
-
-pub rows-more : rowsLeft (fileC true) (replicate 12 (row 7 7 7 7)) ≡ rowsC ++ row 7 7 7 7 ∷ []
-unfolding fileC rowsC row computed
-rows-more = refl
-
--- the answer of the rows call, for 10 and 11 rows lent
-unfoldable pub counts : ℕ → ℕ → ℕ → Counted
-counts n p k = record { verdict = verdict n p; keys = k }
-
-pub counted-C : map (rowsOf (fileC true)) (10 ∷ 11 ∷ []) ≡ counts 23 11 0 ∷ counts 0 0 11 ∷ []
-unfolding fileC counts computed
-counted-C = refl
-
--- ---- citations and the metadata text
-
-unfoldable pub cites : ℕ → ℕ → ℕ → ℕ → Cited
-cites n p s l = record { verdict = verdict n p; start = s; len = l }
-
--- one character short of the count; 26 for an ASCII key that is absent, and for a key of kind 3 and a SHORT that are present
-pub cited-C : map (citedOf (fileC false)) (1026 ∷ 2049 ∷ 3073 ∷ 5002 ∷ 1024 ∷ [])
-    ≡ cites 0 0 388 2 ∷ cites 0 0 384 3 ∷ cites 26 3073 0 0 ∷ cites 26 5002 0 0 ∷ cites 26 1024 0 0 ∷ []
-unfolding fileC cites computed
-cited-C = refl
-
--- ab, and none
-pub citations-C : map (citation (fileC true)) (1026 ∷ 3073 ∷ []) ≡ (97 ∷ 98 ∷ []) ∷ [] ∷ []
-unfolding fileC computed
-citations-C = refl
-
-unfoldable pub text : ℕ → ℕ → ℕ → ℕ → ℕ → Text
-text n p from s l = record { verdict = verdict n p; from = from; start = s; len = l }
-
--- in the file, where the tag is present; else the whole outside text; with a refusal none
-pub texts : textOf (fileC false) 3 ∷ textOf fileA 3 ∷ textOf [] 3 ∷ [] ≡ text 0 0 0 392 5 ∷ text 0 0 1 0 3 ∷ text 1 0 0 0 0 ∷ []
-unfolding fileC fileA text computed
-texts = refl
-
-pub metadata : map (λ f. metadataText f (1 ∷ 2 ∷ 3 ∷ [])) (fileC true ∷ fileA ∷ [] ∷ []) ≡ (60 ∷ 109 ∷ 100 ∷ 47 ∷ 62 ∷ []) ∷ (1 ∷ 2 ∷ 3 ∷ []) ∷ [] ∷ []
-unfolding fileC fileA computed
-metadata = refl
-
 -- ---- the key block
 
 unfoldable pub blockDirectoryC : List ℕ
@@ -145,27 +101,72 @@ unfoldable pub blockC : List ℕ
 unfolding blockDirectoryC blockDoublesC blockCharactersC
 blockC = blockDirectoryC ++ blockDoublesC ++ blockCharactersC
 
--- with the bytes behind it kept; from the other byte order, into just as many bytes
-pub block-C : blockLeft (fileC false) (replicate 138 5) ≡ blockC ++ 5 ∷ 5 ∷ 5 ∷ []
-unfolding fileC blockC computed
-block-C = refl
+-- ---- what each call answers, and what the lent memory then holds
 
-pub block-big : blockLeft (fileC true) (replicate 135 5) ≡ blockC
-unfolding fileC blockC computed
-block-big = refl
+unfoldable pub counts : ℕ → ℕ → ℕ → Counted
+counts n p k = record { verdict = verdict n p; keys = k }
+
+unfoldable pub cites : ℕ → ℕ → ℕ → ℕ → Cited
+cites n p s l = record { verdict = verdict n p; start = s; len = l }
+
+unfoldable pub text : ℕ → ℕ → ℕ → ℕ → ℕ → Text
+text n p from s l = record { verdict = verdict n p; from = from; start = s; len = l }
 
 unfoldable pub lengths : ℕ → ℕ → ℕ → ℕ → ℕ → Block
 lengths n p d x c = record { verdict = verdict n p; directory = d; doubles = x; characters = c }
 
--- 135 bytes: one fewer lent is 25, and the lent bytes stay
-pub lengths-C : map (blockOf (fileC true)) (134 ∷ 135 ∷ [])
-    ≡ lengths 25 135 0 0 0 ∷ lengths 0 0 102 24 9 ∷ []
-unfolding fileC lengths computed
-lengths-C = refl
+pub record Answers : Type 0 where
+  pub counted : List Counted
+  pub rows : List Row
+  pub cited : List Cited
+  pub citations : List (List ℕ)
+  pub texts : Text
+  pub metadata : List ℕ
+  pub measured : List Block
+  pub block : List ℕ
+  pub short : List ℕ
 
-pub short-C : blockLeft (fileC false) (replicate 134 5) ≡ replicate 134 5
-unfolding fileC computed
-short-C = refl
+-- for so many rows and bytes lent, and for some others
+unfoldable pub answered : ℕ → ℕ → List ℕ → Answers
+answered rows bytes f =
+    record {
+      counted = map (rowsOf f) (0 ∷ 10 ∷ 11 ∷ []);
+      rows = rowsLeft f (replicate rows (row 7 7 7 7));
+      cited = map (citedOf f) (1026 ∷ 2049 ∷ 3073 ∷ 5002 ∷ 1024 ∷ []);
+      citations = map (citation f) (1026 ∷ 2049 ∷ 3073 ∷ []);
+      texts = textOf f 3;
+      metadata = metadataText f (1 ∷ 2 ∷ 3 ∷ []);
+      measured = map (blockOf f) (0 ∷ 134 ∷ 135 ∷ []);
+      block = blockLeft f (replicate bytes 5);
+      short = blockLeft f (replicate 134 5);
+    }
+
+-- What C gives, with some rows and bytes behind those that are written. There are 11 keys: 10 rows are too few. A citation is one character short of the
+-- count; 26 for an ASCII key that is absent, and for a key of kind 3 and a SHORT that are present. The metadata text stands in the file. The block has
+-- 135 bytes: one fewer lent is 25, and the lent bytes stay.
+unfoldable pub answersC : List Row → List ℕ → Answers
+unfolding counts cites text lengths rowsC blockC
+answersC rows bytes =
+    record {
+      counted = counts 23 11 0 ∷ counts 23 11 0 ∷ counts 0 0 11 ∷ [];
+      rows = rowsC ++ rows;
+      cited = cites 0 0 388 2 ∷ cites 0 0 384 3 ∷ cites 26 3073 0 0 ∷ cites 26 5002 0 0 ∷ cites 26 1024 0 0 ∷ [];
+      citations = (97 ∷ 98 ∷ []) ∷ (120 ∷ 121 ∷ 122 ∷ []) ∷ [] ∷ [];
+      texts = text 0 0 0 392 5;
+      metadata = 60 ∷ 109 ∷ 100 ∷ 47 ∷ 62 ∷ [];
+      measured = lengths 25 135 0 0 0 ∷ lengths 25 135 0 0 0 ∷ lengths 0 0 102 24 9 ∷ [];
+      block = blockC ++ bytes;
+      short = replicate 134 5;
+    }
+
+-- as many rows lent as there are keys, and 3 bytes more than the block has; in the other byte order one row more, and just as many bytes
+pub little-C : answered 11 138 (fileC false) ≡ answersC [] (5 ∷ 5 ∷ 5 ∷ [])
+unfolding fileC answered answersC row spelled computed
+little-C = spelled-same (fileC false) (answered 11 138)
+
+pub big-C : answered 12 135 (fileC true) ≡ answersC (row 7 7 7 7 ∷ []) []
+unfolding fileC answered answersC row spelled computed
+big-C = spelled-same (fileC true) (answered 12 135)
 
 -- read back: 11 keys; one byte of a last element is left over; the characters are absent; a directory of three numbers, and none
 pub back-C : readBack blockDirectoryC blockDoublesC blockCharactersC
@@ -193,43 +194,49 @@ sharing = laid false (λ at. front at ++ scale ∷ tiepoint ∷ manyKeys ∷ asc
 
 -- 24 stands before 25
 pub far-block : blockOf sharing 4 ≡ lengths 24 5052 0 0 0
-unfolding sharing lengths computed
-far-block = refl
+unfolding sharing lengths spelled computed
+far-block = spelled-same sharing (λ f. blockOf f 4)
 
--- ---- refusals
+-- ---- other files
 
--- two rows lent for A: 23, and both keep their content
-pub rows-short : rowsLeft fileA (row 7 7 7 7 ∷ row 8 8 8 8 ∷ []) ≡ row 7 7 7 7 ∷ row 8 8 8 8 ∷ []
-unfolding fileA row computed
-rows-short = refl
+-- Of A, with 3 keys at location 0 alone. Two rows lent are too few and keep their content, and so do 4 bytes; into more the block is A's own key directory.
+-- There is no citation, and no metadata tag: the whole outside text.
+pub answers-A : answered 2 4 fileA
+    ≡ record {
+      counted = counts 23 3 0 ∷ counts 0 0 3 ∷ counts 0 0 3 ∷ [];
+      rows = row 7 7 7 7 ∷ row 7 7 7 7 ∷ [];
+      cited = map (λ k. cites 26 k 0 0) (1026 ∷ 2049 ∷ 3073 ∷ 5002 ∷ 1024 ∷ []);
+      citations = [] ∷ [] ∷ [] ∷ [];
+      texts = text 0 0 1 0 3;
+      metadata = 1 ∷ 2 ∷ 3 ∷ [];
+      measured = lengths 25 32 0 0 0 ∷ lengths 0 0 32 0 0 ∷ lengths 0 0 32 0 0 ∷ [];
+      block = 5 ∷ 5 ∷ 5 ∷ 5 ∷ [];
+      short = keys ++ replicate 102 5;
+    }
+unfolding fileA answered counts cites text lengths keys row spelled computed
+answers-A = spelled-same fileA (answered 2 4)
 
--- A with minor revision 1, which 15 refuses
-unfoldable pub fifteen : List ℕ
-unfolding fileA changed
-fifteen = changed 234 (1 ∷ 0 ∷ [])
+-- of a file that the rules refuse: its verdict from every call, before 23, 25 and 26; no K, no text, no lengths, and lent memory as it was
+unfoldable pub nothing : ℕ → ℕ → Answers
+unfolding counts cites text lengths row
+nothing n p =
+    record {
+      counted = replicate 3 (counts n p 0);
+      rows = replicate 4 (row 7 7 7 7);
+      cited = replicate 5 (cites n p 0 0);
+      citations = replicate 3 [];
+      texts = text n p 0 0 0;
+      metadata = [];
+      measured = replicate 3 (lengths n p 0 0 0);
+      block = replicate 40 5;
+      short = replicate 134 5;
+    }
 
--- 15 stands before 23, 25 and 26; there are no rows, no text and no lengths
-pub refusals : rowsOf fifteen 0 ≡ counts 15 0 0
-unfolding fifteen counts computed
-refusals = refl
+-- A with minor revision 1, and the empty file
+pub refused-15 : answered 4 40 (changed 234 (1 ∷ 0 ∷ [])) ≡ nothing 15 0
+unfolding changed answered nothing row spelled computed
+refused-15 = spelled-same (changed 234 (1 ∷ 0 ∷ [])) (answered 4 40)
 
-pub refused-cited : citedOf fifteen 1024 ≡ cites 15 0 0 0
-unfolding fifteen cites computed
-refused-cited = refl
-
-pub refused-text : textOf fifteen 3 ≡ text 15 0 0 0 0
-unfolding fifteen text computed
-refused-text = refl
-
-pub refused-block : blockOf fifteen 0 ≡ lengths 15 0 0 0 0
-unfolding fifteen lengths computed
-refused-block = refl
-
--- and lent memory keeps its bytes
-pub refused-rows : rowsLeft fifteen (replicate 4 (row 7 7 7 7)) ≡ replicate 4 (row 7 7 7 7)
-unfolding fifteen row computed
-refused-rows = refl
-
-pub refused-left : blockLeft fifteen (replicate 40 5) ≡ replicate 40 5
-unfolding fifteen computed
-refused-left = refl
+pub refused-1 : answered 4 40 [] ≡ nothing 1 0
+unfolding answered nothing row computed
+refused-1 = refl

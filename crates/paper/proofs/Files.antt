@@ -1,4 +1,5 @@
--- How the files of the examples are written: fields, each a tag with the elements of its value, in either byte order. Assumes nothing.
+-- How the files of the examples are written: fields, each a tag with the elements of its value, in either byte order; that those of file A give
+-- file A is computed. Assumes nothing.
 use Prim.Native.Nat.{ℕ, _+_, _*_, _%_}
 use mathlib.Core.Path.{_≡_, refl}
 use mathlib.Core.Bool.{Bool, false, cond}
@@ -32,9 +33,6 @@ ascii t ns = field t 2 1 ns
 
 unfoldable pub shorts : ℕ → List ℕ → Field
 shorts t ns = field t 3 2 ns
-
-unfoldable pub longs : ℕ → List ℕ → Field
-longs t ns = field t 4 4 ns
 
 -- each by its 64 bits
 unfoldable pub doubles : ℕ → List ℕ → Field

@@ -1,18 +1,19 @@
 -- The verdict is 0 exactly where no rule is broken, and else it is that of the first broken rule, with its place.
 -- Shown once, over any list of numbered rules; a judgement in stages is one over the whole list. Assumes nothing.
-use Prim.Native.Nat.{ℕ, zero, suc, _+_, _≤_, _<_, zero-le, suc-le-suc}
-use mathlib.Core.Path.{_≡_, refl, sym, ap, _∙_, subst}
-use mathlib.Core.Bool.{Bool, true, false, cond, _||_, or-true}
-use mathlib.Core.List.{List, [], _∷_, _++_, map}
+use Prim.Native.Nat.{ℕ, zero, suc, _≤_, _<_, zero-le, suc-le-suc}
+use mathlib.Core.Path.{_≡_, refl, sym, ap, _∙_}
+use mathlib.Core.Bool.{Bool, true, false}
+use mathlib.Core.List.{List, [], _∷_, _++_}
 use native.Mathlib.Omega.{arith}
-use lib.Dec.{T, eqb, leb, ltb, leb→le, le→leb}
+use lib.Dec.{eqb, leb}
 use lib.ListN.{length, getD}
-use borrow.Author.Tests.{eq-eqb, ne-eqb, le-leb, leb-true, eqb-true, eqb-false}
-use Rattle.paper.specs.Outcome.{Outcome, kept, broken, Rule, _▸_, orElse, first, verdict, _▷_}
+use borrow.Author.Tests.{eq-eqb, ne-eqb, leb-true, eqb-true, eqb-false}
+use Rattle.paper.specs.Outcome.{Outcome, kept, broken, Rule, _▸_, first, verdict, _▷_}
 use Rattle.paper.specs.Tests.{all}
-use Rattle.paper.specs.Judge.{verdictOf, rules, past, headStage, countStage, dirStage, viewStage, view}
+use Rattle.paper.specs.Judge.{Head, headIn, view, countIn, nextIn, headRun, verdictOf, rules}
+use Rattle.paper.specs.Judge.{headStage, offsetStage, countStage, entryStage, directoryStage, nextStage, pictureStage, surveyStage, imageStage}
 use Rattle.paper.specs.Keys.{keyRules}
-use Rattle.paper.specs.Judge.{headRules, countRules, dirRules, viewRules, tagRules, groundRules, headRun, headIn, countIn, dirRun, entriesIn}
+use Rattle.paper.specs.Judge.{headRules, offsetRules, countRules, entryRules, directoryRules, nextRules, tableRules, pieceRules, pictureRules, groundRules, surveyRules}
 use Rattle.paper.specs.Asked.{AllKept, FirstBroken, noRule}
 use Rattle.paper.proofs.Laws.{and-eq}
 use Rattle.paper.specs.declared.Verdict.{Verdict}
@@ -108,49 +109,42 @@ first-append (x ∷ xs) ys p = go (x .outcome) refl (first-append xs ys (and-eq 
         let n : eqb (x .number) 0 ≡ false = ne-eqb (x .number) 0 (λ z. omega arith) in
         rw (e, n)
 
+pub chain-turn : (a b c : Verdict) → (a ▷ b) ▷ c ≡ a ▷ (b ▷ c)
+chain-turn a b c = go (eqb (a .number) 0) refl
+  where
+    go : (t : Bool) → eqb (a .number) 0 ≡ t → (a ▷ b) ▷ c ≡ a ▷ (b ▷ c)
+    go true e = rw e
+    go false e = rw (e, e)
+
 -- ---- the judgement of a file
 
-pub verdict-rules : (f : List ℕ) → verdictOf f ≡ first (rules f)
-unfolding verdictOf rules headStage countStage dirStage viewStage headRules countRules dirRules all
-verdict-rules f =
+-- opens the rules of a file: `unfolding ruled` makes of `rules f` a list of twenty-three
+unfoldable pub ruled : Unit {0}
+unfolding rules headRules directoryRules offsetRules countRules entryRules nextRules pictureRules tableRules pieceRules surveyRules keyRules groundRules
+ruled = tt
+
+directory-rules : (f : List ℕ) (h : Head) → directoryStage f h ≡ first (directoryRules f h)
+unfolding directoryStage directoryRules offsetStage countStage entryStage offsetRules countRules all
+directory-rules f h =
     sym
-    (first-append (headRules (length f) (headRun f)) _ refl
+    (first-append (offsetRules h) _ refl
+    ∙ ap (λ (v : Verdict). offsetStage h ▷ v) (first-append (countRules h (countIn f h)) _ refl))
+
+pub verdict-rules : (f : List ℕ) → verdictOf f ≡ first (rules f)
+unfolding verdictOf imageStage headStage nextStage pictureStage surveyStage ruled all
+verdict-rules f =
+    chain-turn (headStage f) _ _
     ∙ ap (λ (v : Verdict). headStage f ▷ v)
-    (first-append (countRules (headIn f) (countIn f (headIn f))) _ refl
-    ∙ ap (λ (v : Verdict). countStage f (headIn f) ▷ v)
-    (first-append (dirRules (headIn f) (countIn f (headIn f)) (dirRun f (headIn f)) (entriesIn f (headIn f))) _ refl)))
+    (chain-turn (directoryStage f (headIn f)) _ _
+    ∙ ap (λ (v : Verdict). directoryStage f (headIn f) ▷ v)
+    (chain-turn (nextStage f) _ _
+    ∙ ap (λ (v : Verdict). nextStage f ▷ v) (sym (first-append (pictureRules (view f)) _ refl))
+    ∙ sym (first-append (nextRules (nextIn f (headIn f))) _ refl))
+    ∙ ap (λ (v : Verdict). v ▷ first (nextRules (nextIn f (headIn f)) ++ (pictureRules (view f) ++ surveyRules (view f)))) (directory-rules f (headIn f))
+    ∙ sym (first-append (directoryRules f (headIn f)) _ refl))
+    ∙ sym (first-append (headRules (length f) (headRun f)) _ refl)
 
 -- no rule is broken where the verdict is 0
 pub all-kept : (f : List ℕ) → verdictOf f .number ≡ 0 → AllKept (rules f)
-unfolding rules headRules countRules dirRules viewRules tagRules keyRules groundRules all
+unfolding ruled all
 all-kept f z = kept-first (rules f) refl (ap (λ (v : Verdict). v .number) (sym (verdict-rules f)) ∙ z)
-
--- ---- which numbers a stage gives: 0, or one of its rules'
-
-pub past-less : (j k v : ℕ) → j ≤ k → T (past k v) → T (past j v)
-unfolding past
-past-less j k v l t = go (eqb v 0) refl
-  where
-    go : (b : Bool) → eqb v 0 ≡ b → T (eqb v 0 || leb j v)
-    go true e = rw e tt
-    go false e = rw e (le→leb j v (omega (arith, leb→le k v (rw e at t))))
-
-pub past-first : (k : ℕ) (rs : List Rule) → From k rs → T (past k (first rs .number))
-unfolding past first all
-past-first k [] p = tt
-past-first k (r ∷ rs) p = go (r .outcome) refl (past-first k rs (and-eq (leb k (r .number)) _ p .1))
-  where
-    go : (o : Outcome) → r .outcome ≡ o → T (past k (first rs .number)) → T (past k (first (r ∷ rs) .number))
-    go kept e h = rw e h
-    go (broken q) e h = rw (e, and-eq (leb k (r .number)) _ p .0, or-true) tt
-
-pub past-zero : (k : ℕ) {v : ℕ} → v ≡ 0 → T (past k v)
-unfolding past
-past-zero k {v} z = rw (eq-eqb v 0 z) tt
-
-pub past-chain : (k : ℕ) (a b : Verdict) → T (past k (a .number)) → T (past k (b .number)) → T (past k ((a ▷ b) .number))
-past-chain k a b p q = go (eqb (a .number) 0) refl
-  where
-    go : (t : Bool) → eqb (a .number) 0 ≡ t → T (past k ((a ▷ b) .number))
-    go true e = rw e q
-    go false e = rw e p

@@ -1,9 +1,9 @@
--- Document 01 by itself, without the tiles of C-11, as a judgement of its own; and that a file of strips, one with some strip tag and no tile tag, has
--- the same verdict and place from both. Assumes nothing.
+-- The judgement without C-11: no rule 27, rules 9 to 14 without tiles, every other rule the verdict's own; and that a file of strips, one with some
+-- strip tag and no tile tag, has the same verdict and place from both. Assumes nothing.
 use Prim.Native.Nat.{ℕ}
 use mathlib.Core.Path.{_≡_, refl, sym, ap, ap₂, _∙_}
 use mathlib.Core.Bool.{Bool, true, false, cond, not, _&&_, _||_, or-true, false≢true}
-use mathlib.Core.List.{List, [], _∷_, _++_, map}
+use mathlib.Core.List.{List, [], _∷_, map}
 use lib.Dec.{eqb}
 use borrow.Author.Tests.{eqb-true, not-true}
 use Rattle.paper.specs.Outcome.{Outcome, kept, broken, breaks, firstOf, firstBad, Rule, _▸_, first, _▷_}
@@ -13,14 +13,13 @@ use Rattle.paper.specs.Tag
 use Rattle.paper.specs.Tags.{Line, line, table, inTable, Held, listed, hold, find, has, bytesOf, countOf, valuesOf, valueOf}
 use Rattle.paper.specs.Tags.{stripTags, tileTags, hasSome, rule27, roundedUp, pieceCount, lacks, rule9, fitsLine, misfits, rule10, disallowed, rule11, rule12}
 use Rattle.paper.specs.Pieces.{Part, part, valueParts, fullList, Piece, placesOf, pieces, rule13, rule14}
-use Rattle.paper.specs.Keys.{keyRules}
-use Rattle.paper.specs.Judge.{Head, View, runsOf, surveyOf, piecesOf, fullOf, tagRules, groundRules, viewRules, headIn, countIn, entriesIn, viewAt, view}
-use Rattle.paper.specs.Judge.{headStage, countStage, dirStage, viewStage, verdictOf}
+use Rattle.paper.specs.Judge.{Head, View, runsOf, surveyOf, piecesOf, fullOf, headIn, countIn, entriesIn, viewAt, view}
+use Rattle.paper.specs.Judge.{tableRules, pieceRules, pictureRules, surveyRules, headStage, directoryStage, nextStage, pictureStage, surveyStage, imageStage, verdictOf}
 use Rattle.paper.proofs.Laws.{or-false, and-eq}
 use Rattle.paper.specs.declared.Verdict.{Verdict}
 use Rattle.paper.specs.declared.Entry.{Entry}
 
--- ---- document 01 by itself
+-- ---- the judgement without C-11
 
 -- the tag is one of these
 unfoldable pub among : List ℕ → ℕ → Bool
@@ -72,7 +71,7 @@ strips big hs =
     (bytesOf Tag.stripByteCounts hs)
     (countOf Tag.stripOffsets hs)
 
--- rules 9 to 22, with no 27
+-- rules 9 to 14, with no 27
 unfoldable pub rulesBefore : View → List Rule
 rulesBefore v =
     9 ▸ rule9 (v .table) (v .held)
@@ -81,11 +80,12 @@ rulesBefore v =
     ∷ 12 ▸ rule12Before (v .head .big) (v .held)
     ∷ 13 ▸ rule13 (v .head .size) (strips (v .head .big) (v .held))
     ∷ 14 ▸ rule14 (fullOf v) (strips (v .head .big) (v .held))
-    ∷ keyRules (runsOf v) ++ groundRules (surveyOf v)
+    ∷ []
 
 unfoldable pub verdictBefore : List ℕ → Verdict
 verdictBefore f =
-    headStage f ▷ (countStage f (headIn f) ▷ (dirStage f (headIn f) ▷ first (rulesBefore (viewAt tableBefore f (headIn f)))))
+    let v : View = viewAt tableBefore f (headIn f) in
+    (headStage f ▷ (directoryStage f (headIn f) ▷ (nextStage f ▷ first (rulesBefore v)))) ▷ surveyStage v
 
 -- some entry has one of the tags
 unfoldable pub carries : List ℕ → List Entry → Bool
@@ -238,8 +238,8 @@ module _ (f : List ℕ) (no-tile : carries tileTags (entriesIn f (headIn f)) ≡
   viewed : List Held → View
   viewed hs = record { table = tableBefore; head = headIn f; count = countIn f (headIn f); held = hs }
 
-  rules-same : viewStage (view f) ≡ first (rulesBefore (viewed held))
-  unfolding viewStage view viewAt viewed held viewRules tagRules rulesBefore piecesOf fullOf fullList runsOf surveyOf first
+  rules-same : pictureStage (view f) ≡ first (rulesBefore (viewed held))
+  unfolding pictureStage view viewAt viewed held pictureRules tableRules pieceRules rulesBefore piecesOf fullOf fullList first
   rules-same =
       let h : Head = headIn f in
       let full : List Part → List Part = (λ ps. part 0 8 ∷ part (h .at) 2 ∷ part (h .at) (dirLen (countIn f h)) ∷ ps) in
@@ -251,10 +251,15 @@ module _ (f : List ℕ) (no-tile : carries tileTags (entriesIn f (headIn f)) ≡
       ∷ 12 ▸ rule12-same (h .big) i
       ∷ 13 ▸ rule13 (h .size) (strips-same (h .big) i)
       ∷ 14 ▸ rule14 (full (parts-same f (entriesIn f h) no-tile i)) (strips-same (h .big) i)
-      ∷ keyRules (runsOf (view f)) ++ groundRules (surveyOf (view f)))
+      ∷ [])
+
+  survey-same : surveyStage (view f) ≡ surveyStage (viewed held)
+  unfolding surveyStage surveyRules runsOf surveyOf view viewAt viewed held
+  survey-same = refl
 
   pub verdict-kept : verdictOf f ≡ verdictBefore f
-  unfolding verdictOf verdictBefore viewAt viewed held
+  unfolding verdictOf imageStage verdictBefore viewAt viewed held
   verdict-kept =
-      ap (λ (v : Verdict). headStage f ▷ (countStage f (headIn f) ▷ (dirStage f (headIn f) ▷ v)))
-      (rules-same ∙ ap (λ (hs : List Held). first (rulesBefore (viewed hs))) (held-same f (entriesIn f (headIn f)) no-tile))
+      (λ i. (headStage f ▷ (directoryStage f (headIn f) ▷ (nextStage f ▷ rules-same i))) ▷ survey-same i)
+      ∙ ap (λ (hs : List Held). (headStage f ▷ (directoryStage f (headIn f) ▷ (nextStage f ▷ first (rulesBefore (viewed hs))))) ▷ surveyStage (viewed hs))
+      (held-same f (entriesIn f (headIn f)) no-tile)

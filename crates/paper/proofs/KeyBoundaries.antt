@@ -1,6 +1,6 @@
 -- Both sides of every number of document 01's keys, ground and calls: the key directory's header, locations, counts and indexes by kind, needed keys,
 -- allowed values, the doubles of scale, tiepoint and matrix, rules 23 and 24. Each line is one definition over some numbers, computed. Assumes nothing.
-use Prim.Native.Nat.{ℕ, _+_}
+use Prim.Native.Nat.{ℕ}
 use mathlib.Core.Path.{_≡_, refl}
 use mathlib.Core.Bool.{Bool, true, false}
 use mathlib.Core.List.{List, [], _∷_, _++_, map}

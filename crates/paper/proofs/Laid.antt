@@ -1,29 +1,30 @@
 -- The key block of an accepted file is laid out as document 01 says, byte for byte, and rules 24 and 25 refuse what they say. Assumes nothing.
 use Prim.Native.Nat.{ℕ, zero, suc, _+_, _*_, _/_, _≤_, _<_, zero-le, suc-le-suc}
 use mathlib.Core.Path.{_≡_, refl, sym, ap, ap₂, _∙_, subst}
-use mathlib.Core.Bool.{Bool, true, false, cond, not, _&&_, false≢true}
+use mathlib.Core.Bool.{Bool, true, false, cond, _&&_, false≢true}
 use mathlib.Core.List.{List, [], _∷_, _++_}
-use native.Mathlib.Nat.{mul-add, not-suc-le-zero, le-of-suc-le-suc}
+use native.Mathlib.Nat.{add-zero, zero-add, mul-add}
 use native.Mathlib.Omega.{arith}
 use lib.Dec.{eqb, leb, ltb, lit<}
 use lib.ListN.{length, getD, take, drop, length-append, length-drop}
 use lib.Seq.{ext-getD, take-append-seam, drop-append-seam}
-use borrow.Author.Tests.{ne-eqb, eqb-true, eqb-false, leb-true, lt-ltb, le-ltb, ltb-true, ltb-false, not-true, not-false}
+use borrow.Author.Tests.{eqb-true, leb-true, lt-ltb, le-ltb, ltb-true, not-false}
 use Rattle.paper.specs.Bytes.{num, enc, build, elems}
-use Rattle.paper.specs.Outcome.{Outcome, kept, broken, breaks, firstBad, _▸_, orElse, first, verdict}
-use Rattle.paper.specs.Keys.{Runs, short, keyCount, keyAt, keys, noKey, room, rightPlace, misplaced, kindOf, rule17, keyRules}
-use Rattle.paper.specs.Judge.{view, runsOf, verdictOf, rules, headRules, countRules, dirRules, viewRules, tagRules}
-use Rattle.paper.specs.Tests.{all}
+use Rattle.paper.specs.Outcome.{Outcome, kept, broken, breaks, firstBad, orElse, first, verdict}
+use Rattle.paper.specs.Keys.{Runs, short, keyCount, keyAt, keys, noKey, room, rightPlace, misplaced, kindOf, rule17}
+use Rattle.paper.specs.Judge.{view, runsOf, verdictOf}
 use Rattle.paper.specs.Calls.{backOf}
 use Rattle.paper.specs.Block.{joined, encs, elements, valuesAt, shortValues, doubleValues, characterValues, countAt, newIndex, withIndex, movedKeys, entryNumbers}
 use Rattle.paper.specs.Block.{directoryNumbers, blockDirectory, blockDoubles, blockCharacters, blockBytes, tooFar, rule24, rule25, blockVerdict, blockIn, blockOf, blockLeft}
 use Rattle.paper.specs.Asked.{Bytes, elementsOf, lentRuns}
 use Rattle.paper.specs.Laid.{numberAt, numbersFrom, total, base, startIndex, fourth, directoryLength, doublesLength, charactersLength, bytesNeeded}
-use Rattle.paper.specs.Laid.{LaidEntry, LaidOut, Far, FirstFar, BlockRefusals}
-use Rattle.paper.proofs.Laws.{length-build, getD-build, kept-all, all-kept, and-eq, breaks-kept}
-use Rattle.paper.proofs.First.{all-kept as file-kept, kept-first}
+use Rattle.paper.specs.Laid.{LaidEntry, LaidOut, far, keyNumbers, NoneFar, BlockRefusals}
+use Rattle.paper.proofs.Laws.{length-build, getD-build, kept-all, all-kept, and-eq}
+use Rattle.paper.proofs.Keeps.{rule17-kept}
 use Rattle.paper.proofs.Codec.{num-drop, length-elems, getD-elems, length-encs, sumAt, length-values, below-append, below-joined}
 use Rattle.paper.proofs.RoundTrip.{Writable, written, newAt, key-at, length-keys, moved-key, length-movedKeys, length-entries, short-back, entry-back, value-back}
+use Rattle.paper.proofs.Places.{first-fault, fault-first}
+use Rattle.paper.proofs.Lent.{block-room}
 use Rattle.paper.proofs.Called.{answer-good}
 use Rattle.paper.proofs.Trip.{accepted-block, block-is, left-is, lent-written, can-write}
 use Rattle.paper.specs.declared.Verdict.{Verdict}
@@ -219,73 +220,15 @@ module _ (r : Runs) (ok : Writable r) where
         characters = λ p. from-start i 34737 1 (written r .characters) h refl p (λ e q. rw q);
       }
 
--- ---- the first bad element, and where it stands
-
--- p is the place of the first bad element
-record BadAt {A : Type 0} (bad : A → Bool) (place : A → ℕ) (xs : List A) (d : A) (p : ℕ) : Type 0 where
-  at : ℕ
-  is : at < length xs
-  there : bad (getD xs at d) ≡ true
-  key : place (getD xs at d) ≡ p
-  before : (j : ℕ) → j < at → bad (getD xs j d) ≡ false
-
-bad-broken : {A : Type 0} (bad : A → Bool) (place : A → ℕ) (xs : List A) (d : A) (p : ℕ) → BadAt bad place xs d p → firstBad bad place xs ≡ broken p
-unfolding firstBad
-bad-broken {A} bad place xs d p b = go xs (b .at) (b .is) (b .there) (b .before) ∙ ap broken (b .key)
-  where
-    go : (ys : List A) (i : ℕ) → i < length ys → bad (getD ys i d) ≡ true → ((j : ℕ) → j < i → bad (getD ys j d) ≡ false)
-        → firstBad bad place ys ≡ broken (place (getD ys i d))
-    go [] i l t n = absurd (not-suc-le-zero l)
-    go (y ∷ ys) zero l t n = rw t
-    go (y ∷ ys) (suc i) l t n =
-        let e : bad y ≡ false = n 0 (suc-le-suc zero-le) in
-        rw e (go ys i (le-of-suc-le-suc l) t (λ j m. n (suc j) (suc-le-suc m)))
-
-broken-bad : {A : Type 0} (bad : A → Bool) (place : A → ℕ) (xs : List A) (d : A) (p : ℕ) → firstBad bad place xs ≡ broken p → BadAt bad place xs d p
-unfolding firstBad
-broken-bad bad place [] d p h = absurd (false≢true cc)
-broken-bad bad place (x ∷ xs) d p h = go (bad x) refl (broken-bad bad place xs d p)
-  where
-    none : (j : ℕ) → j < 0 → ⊥
-    none j l = omega arith
-
-    go : (b : Bool) → bad x ≡ b → (firstBad bad place xs ≡ broken p → BadAt bad place xs d p) → BadAt bad place (x ∷ xs) d p
-    go true e rec =
-        let q : broken (place x) ≡ broken p = rw e at h in
-        record { at = 0; is = suc-le-suc zero-le; there = e; key = cc; before = λ j l. absurd (none j l) }
-    go false e rec =
-        let b : BadAt bad place xs d p = rec (rw e at h) in
-        record {
-          at = suc (b .at);
-          is = suc-le-suc (b .is);
-          there = b .there;
-          key = b .key;
-          before = elim [ zero ↦ (λ l. e) | suc j ↦ (λ l. b .before j (le-of-suc-le-suc l)) ];
-        }
-
 -- ---- the call
-
-rule17-kept : (f : List ℕ) → verdictOf f .number ≡ 0 → rule17 (runsOf (view f)) (keys (runsOf (view f))) ≡ kept
-unfolding rules headRules countRules dirRules viewRules tagRules keyRules
-rule17-kept f z = file-kept f z 17
-
-rule25-kept : (m : ℕ) (r : Runs) → blockVerdict m r .number ≡ 0 → rule25 r m ≡ kept
-unfolding blockVerdict all
-rule25-kept m r z = kept-first (24 ▸ rule24 r ∷ 25 ▸ rule25 r m ∷ []) refl z 1
 
 module _ (f out : List ℕ) (bytes : Bytes f) (z : blockOf f (length out) .verdict .number ≡ 0) where
   r : Runs
   r = runsOf (view f)
 
   fits : bytesNeeded r ≤ length out
-  unfolding r rule25
-  fits =
-      omega (
-        arith,
-        block-long r,
-        ltb-false (length out) (length (blockBytes r))
-            (breaks-kept (ltb (length out) (length (blockBytes r))) _ (rule25-kept (length out) r (accepted-block f (length out) z .1))),
-      )
+  unfolding r
+  fits = omega (arith, block-long r, block-room (length out) r (accepted-block f (length out) z .1))
 
   left : blockLeft f out ≡ blockBytes r ++ drop (bytesNeeded r) out
   unfolding r
@@ -327,73 +270,56 @@ first-25 (broken q) o′ p h = let n : _≡_ {A = ℕ} 24 25 = ap (λ (v : Verdi
 first-25 kept (broken q) p h = (refl, ap (λ (v : Verdict). broken (v .place)) h)
 first-25 kept kept p h = let n : _≡_ {A = ℕ} 0 25 = ap (λ (v : Verdict). v .number) h in absurd (omega arith)
 
+-- the first bad element, by the numbers of the elements
+first-numbered : {A : Type 0} (bad : A → Bool) (place : A → ℕ) (d : A) (bad′ : ℕ → Bool) (place′ : ℕ → ℕ) (k : ℕ) (xs : List A)
+    → ((j : ℕ) → j < length xs → bad (getD xs j d) ≡ bad′ (k + j)) → ((j : ℕ) → j < length xs → place (getD xs j d) ≡ place′ (k + j))
+    → firstBad bad place xs ≡ firstBad bad′ place′ (build (λ i. i) k (length xs))
+unfolding firstBad build
+first-numbered bad place d bad′ place′ k [] b p = refl
+first-numbered bad place d bad′ place′ k (x ∷ xs) b p =
+    let t : bad x ≡ bad′ k = b 0 (suc-le-suc zero-le) ∙ ap bad′ (add-zero k) in
+    let q : place x ≡ place′ k = p 0 (suc-le-suc zero-le) ∙ ap place′ (add-zero k) in
+    let r = first-numbered bad place d bad′ place′ (suc k) xs
+    (λ j l. b (suc j) (suc-le-suc l) ∙ ap bad′ (omega arith)) (λ j l. p (suc j) (suc-le-suc l) ∙ ap place′ (omega arith)) in
+    λ i. cond (t i) (broken (q i)) (r i)
+
+nth-number : (k i : ℕ) → i < k → getD (build (λ j. j) 0 k) i 0 ≡ i
+nth-number k i l = getD-build (λ j. j) 0 0 k i l ∙ zero-add i
+
 module _ (r : Runs) (kept17 : rule17 r (keys r) ≡ kept) where
   -- the test of rule 24 at key i
-  far-test : (i : ℕ) → i < keyCount r → tooFar (getD (movedKeys r) i noKey) ≡ not (eqb (keyAt r i .location) 0) && ltb 65535 (startIndex r i)
-  unfolding tooFar fourth
+  far-test : (i : ℕ) → i < keyCount r → tooFar (getD (movedKeys r) i noKey) ≡ far r i
+  unfolding tooFar fourth far
   far-test i h = ap tooFar (new-entry r kept17 i h) ∙ go (eqb (keyAt r i .location) 0) refl
     where
-      go : (b : Bool) → eqb (keyAt r i .location) 0 ≡ b
-          → tooFar (withIndex (keyAt r i) (fourth r i)) ≡ not (eqb (keyAt r i .location) 0) && ltb 65535 (startIndex r i)
+      go : (b : Bool) → eqb (keyAt r i .location) 0 ≡ b → tooFar (withIndex (keyAt r i) (fourth r i)) ≡ far r i
       go true p = rw p
       go false p = rw p
 
-  far-true : (i : ℕ) → Far r i → tooFar (getD (movedKeys r) i noKey) ≡ true
-  far-true i f =
-      let n : eqb (keyAt r i .location) 0 ≡ false = ne-eqb _ _ (f .outside) in
-      let l : ltb 65535 (startIndex r i) ≡ true = lt-ltb _ _ (f .high) in
-      far-test i (f .is) ∙ rw (n, l)
-
-  true-far : (i : ℕ) → i < keyCount r → tooFar (getD (movedKeys r) i noKey) ≡ true → Far r i
-  true-far i h t =
-      let a = and-eq (not (eqb (keyAt r i .location) 0)) _ (sym (far-test i h) ∙ t) in
-      record { is = h; outside = eqb-false _ _ (not-true _ (a .0)); high = ltb-true _ _ (a .1) }
-
-  not-far : (i : ℕ) → i < keyCount r → (Far r i → ⊥) → tooFar (getD (movedKeys r) i noKey) ≡ false
-  not-far i h n = go (tooFar (getD (movedKeys r) i noKey)) refl
+  -- rule 24 tests key by key
+  rule24-far : rule24 r ≡ firstBad (far r) (λ i. keyAt r i .key) (keyNumbers r)
+  unfolding rule24
+  rule24-far =
+      first-numbered tooFar (λ e. e .key) noKey (far r) (λ i. keyAt r i .key) 0 (movedKeys r)
+      (λ j l. far-test j (in-moved j l) ∙ ap (far r) (sym (zero-add j)))
+      (λ j l. ap (λ (e : KeyEntry). e .key) (new-entry r kept17 j (in-moved j l)) ∙ ap (λ (i : ℕ). keyAt r i .key) (sym (zero-add j)))
+      ∙ ap (λ (n : ℕ). firstBad (far r) (λ i. keyAt r i .key) (build (λ i. i) 0 n)) (length-movedKeys r)
     where
-      go : (b : Bool) → tooFar (getD (movedKeys r) i noKey) ≡ b → b ≡ false
-      go true p = absurd (n (true-far i h p))
-      go false p = refl
+      in-moved : (j : ℕ) → j < length (movedKeys r) → j < keyCount r
+      in-moved j l = omega (arith, length-movedKeys r)
 
-  in-moved : (i : ℕ) → i < keyCount r → i < length (movedKeys r)
-  in-moved i h = omega (arith, length-movedKeys r)
+  none-kept : NoneFar r → rule24 r ≡ kept
+  none-kept n = rule24-far ∙ all-kept (far r) _ (keyNumbers r) 0 each
+    where
+      each : (i : ℕ) → i < length (keyNumbers r) → far r (getD (keyNumbers r) i 0) ≡ false
+      each i l =
+          let h : i < keyCount r = omega (arith, length-build (λ (j : ℕ). j) 0 (keyCount r)) in
+          ap (far r) (nth-number (keyCount r) i h) ∙ n i h
 
-  place : (i : ℕ) → i < keyCount r → getD (movedKeys r) i noKey .key ≡ keyAt r i .key
-  place i h = ap (λ (e : KeyEntry). e .key) (new-entry r kept17 i h)
-
-  far-broken : (p : ℕ) → FirstFar r p → rule24 r ≡ broken p
-  unfolding rule24
-  far-broken p f =
-      bad-broken tooFar _ (movedKeys r) noKey p
-      record {
-        at = f .at;
-        is = in-moved (f .at) (f .far .is);
-        there = far-true (f .at) (f .far);
-        key = place (f .at) (f .far .is) ∙ f .key;
-        before = λ j l. not-far j (omega (arith, f .far .is)) (f .before j l);
-      }
-
-  broken-far : (p : ℕ) → rule24 r ≡ broken p → FirstFar r p
-  unfolding rule24
-  broken-far p h =
-      let b : BadAt tooFar (λ (e : KeyEntry). e .key) (movedKeys r) noKey p = broken-bad tooFar _ (movedKeys r) noKey p h in
-      let l : b .at < keyCount r = omega (arith, length-movedKeys r, b .is) in
-      record {
-        at = b .at;
-        key = sym (place (b .at) l) ∙ b .key;
-        far = true-far (b .at) l (b .there);
-        before = λ j m f. false≢true (sym (b .before j m) ∙ far-true j f);
-      }
-
-  none-kept : ((i : ℕ) → Far r i → ⊥) → rule24 r ≡ kept
-  unfolding rule24
-  none-kept n =
-      all-kept tooFar _ (movedKeys r) noKey (λ i l. not-far i (omega (arith, length-movedKeys r)) (n i))
-
-  kept-none : rule24 r ≡ kept → (i : ℕ) → Far r i → ⊥
-  unfolding rule24
-  kept-none h i f = false≢true (sym (kept-all tooFar _ (movedKeys r) noKey h i (in-moved i (f .is))) ∙ far-true i f)
+  kept-none : rule24 r ≡ kept → NoneFar r
+  kept-none h i l =
+      ap (far r) (sym (nth-number (keyCount r) i l))
+      ∙ kept-all (far r) _ (keyNumbers r) 0 (sym rule24-far ∙ h) i (omega (arith, length-build (λ (j : ℕ). j) 0 (keyCount r)))
 
   short-broken : (m : ℕ) → m < bytesNeeded r → rule25 r m ≡ broken (bytesNeeded r)
   unfolding rule25
@@ -415,8 +341,8 @@ module _ (r : Runs) (kept17 : rule17 r (keys r) ≡ kept) where
   unfolding blockVerdict first
   refusals m =
       record {
-        far = λ p f. rw (far-broken p f);
-        far-only = λ p h. broken-far p (first-24 (rule24 r) (rule25 r m) p h);
+        far = λ p f. rw (rule24-far ∙ fault-first (far r) _ _ p f);
+        far-only = λ p h. first-fault (far r) _ _ p (sym rule24-far ∙ first-24 (rule24 r) (rule25 r m) p h);
         short = λ p t. rw (none-kept (t .none), short-broken m (t .room), t .place);
         short-only = λ p h.
             let b = first-25 (rule24 r) (rule25 r m) p h in

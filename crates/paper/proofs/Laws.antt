@@ -1,16 +1,15 @@
 -- Laws of the general definitions, each shown once: runs, numbers of w bytes, built lists, the first bad element. Assumes nothing.
 use Prim.Native.Nat.{ℕ, zero, suc, _+_, _-_, _*_, _/_, _%_, _^_, _≤_, _<_, min, zero-le, suc-le-suc}
 use mathlib.Core.Path.{_≡_, refl, sym, ap, ap₂, _∙_, subst}
-use mathlib.Core.Bool.{Bool, true, false, cond, not, _||_, _&&_}
-use mathlib.Core.List.{List, [], _∷_, _++_, map}
-use native.Mathlib.Nat.{pow-le-pow-right, add-zero, zero-add, add-suc, suc-add, pow-suc, mul-assoc, mul-le-mul-right, zero-sub, sub-zero, suc-sub-suc, le-of-suc-le-suc, not-suc-le-zero}
+use mathlib.Core.Bool.{Bool, true, false, cond, _||_, _&&_}
+use mathlib.Core.List.{List, [], _∷_, _++_}
+use native.Mathlib.Nat.{add-zero, zero-add, suc-add, pow-suc, mul-le-mul-right, zero-sub, sub-zero, suc-sub-suc, le-of-suc-le-suc, not-suc-le-zero}
 use native.Mathlib.Omega.{arith}
-use native.Mathlib.Numerals.{add-one}
-use lib.Dec.{T, eqb, leb, ltb, lit<}
+use lib.Dec.{T, eqb, leb, lit<}
 use lib.ListN.{length, getD, take, drop, length-take, length-drop}
 use lib.Seq.{getD-take, getD-drop, ext-getD, take-take, drop-drop, take-nil}
 use borrow.Author.Tests.{eqb-true, eqb-false, leb-true, le-leb}
-use Rattle.paper.specs.Bytes.{run, num, enc, build, elems}
+use Rattle.paper.specs.Bytes.{run, num, enc, build}
 use Rattle.paper.specs.Outcome.{Outcome, kept, broken, breaks, firstBad}
 use Rattle.paper.specs.Tests.{all, just, inRange}
 use Rattle.paper.specs.Asked.{Bytes}
@@ -105,55 +104,6 @@ num-run false (suc w) f s l p h =
 num-run true (suc w) f s l p h =
     ap₂ (λ (a b : ℕ). a * 256 ^ w + b) (run-get f s l p (omega arith))
     (num-run true w f s l (suc p) (omega arith) ∙ ap (num true w f) (omega arith))
-
--- the first byte apart, and, in the big order, the last: over the width
-pub num-little : (w : ℕ) (s : List ℕ) (p : ℕ) → num false (suc w) s p ≡ getD s p 0 + 256 * num false w s (p + 1)
-unfolding num
-num-little w s p = rw add-one
-
-pub num-big : (w : ℕ) (s : List ℕ) (p : ℕ) → num true (suc w) s p ≡ getD s p 0 * 256 ^ w + num true w s (p + 1)
-unfolding num
-num-big w s p = rw add-one
-
--- a SHORT, as code computes it
-pub short-little : (s : List ℕ) (p : ℕ) → num false 2 s p ≡ getD s p 0 + 256 * getD s (p + 1) 0
-unfolding num
-short-little s p = rw add-one (omega arith)
-
-pub short-big : (s : List ℕ) (p : ℕ) → num true 2 s p ≡ getD s p 0 * 256 + getD s (p + 1) 0
-unfolding num
-short-big s p = rw add-one (omega arith)
-
-pub num-snoc : (w : ℕ) (s : List ℕ) (p : ℕ) → num true (suc w) s p ≡ num true w s p * 256 + getD s (p + w) 0
-unfolding num
-num-snoc zero s p = let e : p + 0 ≡ p = omega arith in rw e (omega arith)
-num-snoc (suc w) s p =
-    let e : num true (suc w) s (suc p) ≡ num true w s (suc p) * 256 + getD s (suc p + w) 0 = num-snoc w s (suc p) in
-    let q : suc p + w ≡ p + suc w = omega arith in
-    let m : getD s p 0 * 256 ^ suc w ≡ getD s p 0 * 256 ^ w * 256 =
-    ap (λ (x : ℕ). getD s p 0 * x) (pow-suc 256 w) ∙ sym (mul-assoc (getD s p 0) (256 ^ w) 256) in
-    rw (m, e, q) (omega arith)
-
--- as a loop from the first byte, and one from the last, have it so far, with how far it is from overflow
-pub so-far-big : (s : List ℕ) (p i r b : ℕ) → r ≡ num true i s p → b ≡ getD s (p + i) 0 → r * 256 + b ≡ num true (i + 1) s p
-so-far-big s p i r b h e = rw (add-one, h, e) (sym (num-snoc i s p))
-
-pub so-far-little : (s : List ℕ) (p w i r b : ℕ) → i < w → r ≡ num false (w - (i + 1)) s (p + (i + 1)) → b ≡ getD s (p + i) 0
-    → r * 256 + b ≡ num false (w - i) s (p + i)
-unfolding num
-so-far-little s p w i r b l h e =
-    let q : w - i ≡ suc (w - (i + 1)) = omega arith in
-    let u : p + (i + 1) ≡ suc (p + i) = omega arith in
-    rw (q, e, h, u) (omega arith)
-
-pub fits-more : (r b i : ℕ) → r < 256 ^ i → b < 256 → r * 256 + b < 256 ^ (i + 1)
-fits-more r b i h e = rw (add-one, pow-suc) (omega arith)
-
-pub fits-64 : (r b i : ℕ) → r < 256 ^ i → b < 256 → i < 8 → r * 256 + b < 18446744073709551616
-fits-64 r b i h e l =
-    let j : i ≤ 7 = omega arith in
-    let m : 256 ^ i ≤ 256 ^ 7 = pow-le-pow-right {n = 256} (lit< tt) j in
-    omega arith
 
 -- a number of w bytes fits them
 pub num-bound : (big : Bool) (w : ℕ) (s : List ℕ) (p : ℕ) → Bytes s → num big w s p < 256 ^ w

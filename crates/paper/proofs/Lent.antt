@@ -15,7 +15,6 @@ use Rattle.paper.specs.Tags.{has}
 use Rattle.paper.specs.Tag
 use Rattle.paper.specs.Keys.{Runs, keyCount, keys, hasKey, kindOf, asciiKind, keyRules}
 use Rattle.paper.specs.Judge.{View, view, runsOf, verdictOf, rules}
-use Rattle.paper.specs.Judge.{headRules, countRules, dirRules, viewRules, tagRules, groundRules}
 use Rattle.paper.specs.Calls.{accepts, answer, judgedOf, judgedIn, notJudged, rowsOf, rowsLeft, rowsOver, rowAt, rowsIn, rule23, counted, countedIn}
 use Rattle.paper.specs.Calls.{citedOf, citedIn, rule26, cited, citation, textOf, textIn, metadataText, readRuns}
 use Rattle.paper.specs.Block.{rule24, rule25, block, blockVerdict, blockIn, blockOf, blockLeft, blockOver}
@@ -23,7 +22,7 @@ use Rattle.paper.specs.Block.{blockBytes, blockDirectory, blockDoubles, 
 use Rattle.paper.specs.Lent.{Accepted, Refused, among, fileNumbers, Gives, CallGives, Numbers, plusZero, Refusals, InFront, blockLength, Writes, Needed, Named, Reads, Guarded}
 use Rattle.paper.proofs.Laws.{and-eq, length-build, breaks-kept}
 use Rattle.paper.proofs.Called.{answer-good}
-use Rattle.paper.proofs.First.{From, first-kept, kept-first, verdict-rules}
+use Rattle.paper.proofs.First.{From, first-kept, kept-first, verdict-rules, ruled}
 use Rattle.paper.specs.declared.Verdict.{Verdict}
 use Rattle.paper.specs.declared.Row.{Row}
 use Rattle.paper.specs.declared.Georeference.the-variants.{Scaled}
@@ -53,7 +52,7 @@ first-gives ks rs p q =
     record { number = first-among ks rs q; place = λ z. ap (λ (v : Verdict). v .place) (first-kept rs (kept-first rs p z)) }
 
 file-gives : (f : List ℕ) → Gives fileNumbers (verdictOf f)
-unfolding rules headRules countRules dirRules viewRules tagRules keyRules groundRules all some
+unfolding ruled all some
 file-gives f = subst (λ (v : Verdict). Gives fileNumbers v) (sym (verdict-rules f)) (first-gives fileNumbers (rules f) refl refl)
 
 -- ---- a call on a file: two calls take the same branch
@@ -222,7 +221,7 @@ block-long r =
     length-append (blockDirectory r) _ ∙ ap (λ (n : ℕ). length (blockDirectory r) + n) (length-append (blockDoubles r) (blockCharacters r))
 
 -- rule 25 is kept
-block-room : (m : ℕ) (r : Runs) → Accepted (blockVerdict m r) → length (blockBytes r) ≤ m
+pub block-room : (m : ℕ) (r : Runs) → Accepted (blockVerdict m r) → length (blockBytes r) ≤ m
 unfolding blockVerdict rule25 all
 block-room m r z =
     ltb-false m (length (blockBytes r))

@@ -1,9 +1,13 @@
+-- What follows from the definitions, file by file. Assumes nothing.
+
 -- the page to read first
 pub mod Demands
 -- what it rests on
 pub mod First
+pub mod Keeps
 pub mod Lent
 pub mod Places
+pub mod Held
 pub mod Values
 pub mod RowValues
 pub mod OnGround
@@ -11,6 +15,7 @@ pub mod PieceCount
 pub mod Shown
 pub mod Called
 pub mod Unseen
+pub mod Listed
 pub mod Kept
 pub mod Citation
 pub mod Metadata
@@ -22,6 +27,7 @@ pub mod Laid
 pub mod Settled
 -- examples and tables, computed
 pub mod Computed
+pub mod Spelled
 pub mod Files
 pub mod Marked
 pub mod FileC

@@ -1,6 +1,6 @@
 -- Document 01, 'File A', 'Marked examples', 'Reading list' and 'Errors that tempt': files, what the calls answer for each, what may be read of
 -- each, and that the definitions give just that, computed. Assumes nothing.
-use Prim.Native.Nat.{ℕ, _+_}
+use Prim.Native.Nat.{ℕ}
 use mathlib.Core.Path.{_≡_, refl}
 use mathlib.Core.Bool.{true, false}
 use mathlib.Core.List.{List, [], _∷_, _++_, map}
@@ -8,7 +8,7 @@ use lib.ListN.{length, replicate, take}
 use lib.Seq.{sets}
 use lib.Ieee as Ieee
 use lib.Ieee.{Float, fin, binary64}
-use lib.IntN.{pos, negsuc}
+use lib.IntN.{negsuc}
 use Rattle.paper.specs.Bytes.{enc, build}
 use Rattle.paper.specs.Outcome.{verdict}
 use Rattle.paper.specs.Pieces.{Part, part}
@@ -18,11 +18,11 @@ use Rattle.paper.specs.Calls.{noCorners, judgedOf, rowsOf, rowsLeft, cit
 use Rattle.paper.specs.Block.{joined, encs}
 use Rattle.paper.specs.Asked.{onList}
 use Rattle.paper.proofs.Computed.{computed}
+use Rattle.paper.proofs.Spelled.{spelled, table-spelled}
 use Rattle.paper.specs.declared.Verdict.{Verdict}
 use Rattle.paper.specs.declared.Corners.{Corners}
 use Rattle.paper.specs.declared.Judged.{Judged}
 use Rattle.paper.specs.declared.Counted.{Counted}
-use Rattle.paper.specs.declared.Cited.{Cited}
 use Rattle.paper.specs.declared.Row.{Row}
 
 -- ---- file A
@@ -175,19 +175,19 @@ examples =
     ∷ record { file = fileA; lent = 2; gives = record { judged = count (verdict 0 0) 3; corners = area; rows = count (verdict 23 3) 0 } }
     ∷ []
 
--- what the definitions answer
-unfoldable pub answered : Example → Answers
-answered x =
-    let j : Judged = judgedOf (x .file) in
+-- what the definitions answer for a file, with m rows lent
+unfoldable pub answered : ℕ → List ℕ → Answers
+answered m f =
+    let j : Judged = judgedOf f in
     record {
       judged = record { verdict = j .verdict; keys = j .keys };
       corners = j .corners;
-      rows = rowsOf (x .file) (x .lent);
+      rows = rowsOf f m;
     }
 
-pub marked : map answered examples ≡ map (λ x. x .gives) examples
-unfolding examples answered computed
-marked = refl
+pub marked : map (λ x. answered (x .lent) (x .file)) examples ≡ map (λ x. x .gives) examples
+unfolding examples answered spelled computed
+marked = table-spelled (λ x. x .file) (λ x. answered (x .lent)) (λ x. x .gives) examples refl
 
 -- the rows of A, with four lent: the last keeps its content
 unfoldable pub row : ℕ → ℕ → ℕ → ℕ → Row
@@ -258,12 +258,12 @@ readings =
     ∷ []
 
 -- what the definitions allow
-unfoldable pub allowedOf : Reading → Allowed
-allowedOf x = record { number = verdictOf (x .file) .number; list = readingList (x .file) }
+unfoldable pub allowedOf : List ℕ → Allowed
+allowedOf f = record { number = verdictOf f .number; list = readingList f }
 
-pub allowed : map allowedOf readings ≡ map (λ x. x .gives) readings
-unfolding readings allowedOf computed
-allowed = refl
+pub allowed : map (λ x. allowedOf (x .file)) readings ≡ map (λ x. x .gives) readings
+unfolding readings allowedOf spelled computed
+allowed = table-spelled (λ x. x .file) (λ x. allowedOf) (λ x. x .gives) readings refl
 
 -- of A it is bytes 0 to 261
 pub listed-A : build (λ i. onList i (readingList fileA)) 0 270 ≡ replicate 262 true ++ replicate 8 false
@@ -280,9 +280,9 @@ tempting =
     ∷ refused (changed 166 (enc 8 0xBFE0000000000000)) 21 33550
     ∷ []
 
-pub tempted : map answered tempting ≡ map (λ x. x .gives) tempting
-unfolding tempting answered computed
-tempted = refl
+pub tempted : map (λ x. answered (x .lent) (x .file)) tempting ≡ map (λ x. x .gives) tempting
+unfolding tempting answered spelled computed
+tempted = table-spelled (λ x. x .file) (λ x. answered (x .lent)) (λ x. x .gives) tempting refl
 
 -- A with two doubles, of which a key has the second, and with the characters ab|, which stand in their entry
 pub fileB : List ℕ

@@ -1,37 +1,30 @@
 -- The metadata text is the part of the file, or of the outside text, that it is said to be; in the file it is the value of 50909. So it is the
 -- same in files that agree on the reading list. Assumes nothing.
-use Prim.Native.Nat.{ℕ, _<_}
-use mathlib.Core.Path.{_≡_, refl, sym, ap, _∙_, subst}
-use mathlib.Core.Bool.{Bool, true, false, cond, not, _&&_, _||_}
+use Prim.Native.Nat.{ℕ}
+use mathlib.Core.Path.{_≡_, refl, sym, _∙_}
+use mathlib.Core.Bool.{Bool, true, false, cond, _||_}
 use mathlib.Core.List.{List, []}
-use lib.Dec.{T, eqb, leb, ltb, lit<}
+use lib.Dec.{eqb, lit<}
 use lib.ListN.{length, getD}
 use lib.Seq.{take-length}
-use borrow.Author.Tests.{eqb-true, eq-eqb, not-false}
+use borrow.Author.Tests.{eqb-true}
 use Rattle.paper.specs.Bytes.{run}
 use Rattle.paper.specs.Outcome.{kept}
 use Rattle.paper.specs.Tests.{some}
-use Rattle.paper.specs.Layout.{sizeOf, typed}
-use Rattle.paper.specs.Tags.{Line, line, table, Held, hold, find, has, bytesOf, listed, inTable, fitsLine, rule10}
-use Rattle.paper.specs.Keys.{keyRules}
-use Rattle.paper.specs.Judge.{View, view, verdictOf, rules, readingList, viewAt, headIn, entriesIn}
-use Rattle.paper.specs.Judge.{headRules, countRules, dirRules, viewRules, tagRules}
+use Rattle.paper.specs.Layout.{sizeOf}
+use Rattle.paper.specs.Tags.{table, Held, hold, find, has, bytesOf, listed, inTable, fitsLine, rule10}
+use Rattle.paper.specs.Judge.{View, view, verdictOf, readingList, viewAt, headIn, entriesIn}
 use Rattle.paper.specs.Calls.{accepts, answer, textIn, textOf, metadataText}
 use Rattle.paper.specs.Asked.{Agree}
 use Rattle.paper.proofs.Laws.{and-eq, or-same}
 use Rattle.paper.proofs.Bounds.{noLine, fits-line}
-use Rattle.paper.proofs.First.{all-kept}
-use Rattle.paper.proofs.Citation.{held-bytes}
+use Rattle.paper.proofs.Keeps.{rule10-kept}
+use Rattle.paper.proofs.Held.{held-bytes}
 use Rattle.paper.proofs.Unseen.{answer-same}
-use Rattle.paper.specs.declared.Entry.{Entry}
 
 -- the text that the view shows
 unfoldable pub told : List ℕ → View → List ℕ
 told outside w = cond (has 50909 (w .held)) (bytesOf 50909 (w .held)) outside
-
-pub rule10-kept : (f : List ℕ) → verdictOf f .number ≡ 0 → rule10 table (view f .held) ≡ kept
-unfolding rules headRules countRules dirRules viewRules tagRules keyRules view viewAt
-rule10-kept f z = all-kept f z 10
 
 -- where it is present, its type is BYTE, so its value is on the reading list
 meta-listed : (hs : List Held) → rule10 table hs ≡ kept → has 50909 hs ≡ true → listed table (find 50909 hs .entry) ≡ true

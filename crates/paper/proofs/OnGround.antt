@@ -11,22 +11,20 @@ use lib.Ieee as Ieee
 use lib.Ieee.{Float, binary64}
 use borrow.Author.Tests.{eqb-true, eqb-false, not-true, not-false}
 use Rattle.paper.specs.Bytes.{elems}
-use Rattle.paper.specs.Outcome.{kept}
 use Rattle.paper.specs.Tests.{some, just, allows}
 use Rattle.paper.specs.Tag
 use Rattle.paper.specs.Tags.{table, bytesOf}
 use Rattle.paper.specs.Key
-use Rattle.paper.specs.Keys.{keys, hasKey, keyRules, rule18, rule19, Fixed, fixed, fixedKeys, forbidden}
+use Rattle.paper.specs.Keys.{keys, hasKey, rule18, rule19, Fixed, fixed, fixedKeys, forbidden}
 use Rattle.paper.specs.Ground
 use Rattle.paper.specs.Ground.{_⊠_, ofNat, zero64, one64, finite, double, none, allFinite, scales, spans}
 use Rattle.paper.specs.Ground.{rule20, rule21, rule22, mapX, mapY, cornersOf, last, finiteCorners}
-use Rattle.paper.specs.Judge.{view, verdictOf, rules, runsOf, surveyOf, headIn, viewAt}
-use Rattle.paper.specs.Judge.{headRules, countRules, dirRules, viewRules, tagRules, groundRules}
+use Rattle.paper.specs.Judge.{view, verdictOf, runsOf, surveyOf, headIn, viewAt}
 use Rattle.paper.specs.Calls.{judgedOf, judgedIn, notJudged}
 use Rattle.paper.specs.Shown.{hasTag, valueIn, doubleIn, t, c, m, AllFinite, rasterType, cornersBy, CornersHold, ScaledHolds, AffineHolds, GroundHolds}
 use Rattle.paper.proofs.Laws.{and-eq, just-is, breaks-kept, kept-all, all-at}
 use Rattle.paper.proofs.Codec.{length-elems, getD-elems}
-use Rattle.paper.proofs.First.{all-kept}
+use Rattle.paper.proofs.Keeps.{rule18-kept, rule19-kept, rule20-kept, rule21-kept, rule22-kept}
 use Rattle.paper.proofs.Called.{answer-good}
 use Rattle.paper.proofs.Values.{each-kept, nand, tag-number, absent-empty, present-doubles, present-value, needed}
 use Rattle.paper.specs.declared.Judged.{Judged}
@@ -64,26 +62,6 @@ zero-is = refl
 
 module _ (f : List ℕ) (z : verdictOf f .number ≡ 0) where
   -- ---- the rules
-
-  rule18-kept : rule18 (keys (runsOf (view f))) ≡ kept
-  unfolding rules headRules countRules dirRules viewRules tagRules keyRules
-  rule18-kept = all-kept f z 18
-
-  rule19-kept : rule19 (keys (runsOf (view f))) ≡ kept
-  unfolding rules headRules countRules dirRules viewRules tagRules keyRules
-  rule19-kept = all-kept f z 19
-
-  rule20-kept : rule20 (surveyOf (view f)) ≡ kept
-  unfolding rules headRules countRules dirRules viewRules tagRules keyRules groundRules
-  rule20-kept = all-kept f z 20
-
-  rule21-kept : rule21 (surveyOf (view f)) ≡ kept
-  unfolding rules headRules countRules dirRules viewRules tagRules keyRules groundRules
-  rule21-kept = all-kept f z 21
-
-  rule22-kept : rule22 (Ground.corners (surveyOf (view f))) ≡ kept
-  unfolding rules headRules countRules dirRules viewRules tagRules keyRules groundRules
-  rule22-kept = all-kept f z 22
 
   -- ---- the doubles, as they stand in the file
 
@@ -211,8 +189,8 @@ module _ (f : List ℕ) (z : verdictOf f .number ≡ 0) where
       georeference-is ∙ rw nm (λ d. Scaled (t1 d) (t2 d) (t4 d) (t5 d) (c1 d) (c2 d)) in
       let big : Bool = headIn f .big in
       let s : List ℕ = ValueBytes Tag.scale in
-      let first = breaks-kept (not (none s) && not (allFinite big s && scales big s)) Tag.scale (each-kept _ rule21-kept 0) in
-      let second = breaks-kept (not (allFinite big (ValueBytes Tag.tiepoint))) Tag.tiepoint (each-kept _ rule21-kept 1) in
+      let first = breaks-kept (not (none s) && not (allFinite big s && scales big s)) Tag.scale (each-kept _ (rule21-kept f z) 0) in
+      let second = breaks-kept (not (allFinite big (ValueBytes Tag.tiepoint))) Tag.tiepoint (each-kept _ (rule21-kept f z) 1) in
       let good = and-eq (allFinite big s) _ (nand (not (none s)) _ first (rw ns)) in
       let above = and-eq (Ieee.lt zero64 (double big s 0)) _ (good .1) in
       record {
@@ -243,7 +221,7 @@ module _ (f : List ℕ) (z : verdictOf f .number ≡ 0) where
       let m8 = at 8 (lit< tt) (lit< tt) in
       let g : judgedOf f .georeference ≡ Affine (m f 1) (m f 2) (m f 4) (m f 5) (m f 6) (m f 8) =
       georeference-is ∙ rw nm (λ d. Affine (m1 d) (m2 d) (m4 d) (m5 d) (m6 d) (m8 d)) in
-      let third = breaks-kept (not (none s) && not (allFinite big s && spans big s)) Tag.matrix (each-kept _ rule21-kept 2) in
+      let third = breaks-kept (not (none s) && not (allFinite big s && spans big s)) Tag.matrix (each-kept _ (rule21-kept f z) 2) in
       let good = and-eq (allFinite big s) _ (nand (not (none s)) _ third (rw nm)) in
       let a = and-eq (Ieee.eq (double big s 12) zero64) _ (good .1) in
       let b = and-eq (Ieee.eq (double big s 13) zero64) _ (a .1) in
@@ -271,8 +249,8 @@ module _ (f : List ℕ) (z : verdictOf f .number ≡ 0) where
   unfolding rule18 rule19 forbidden fixedKeys
   raster-allowed =
       let ks = keys (runsOf (view f)) in
-      let there = breaks-kept (not (hasKey Key.rasterType ks)) Key.rasterType (each-kept _ rule18-kept 1) in
-      let test = kept-all (forbidden ks) (λ (x : Fixed). x .key) fixedKeys (fixed 0 []) rule19-kept 1 (lit< tt) in
+      let there = breaks-kept (not (hasKey Key.rasterType ks)) Key.rasterType (each-kept _ (rule18-kept f z) 1) in
+      let test = kept-all (forbidden ks) (λ (x : Fixed). x .key) fixedKeys (fixed 0 []) (rule19-kept f z) 1 (lit< tt) in
       nand (hasKey Key.rasterType ks) _ test (not-false _ there)
 
   -- ---- and so the place on the ground
@@ -281,9 +259,9 @@ module _ (f : List ℕ) (z : verdictOf f .number ≡ 0) where
   unfolding rule20 rule22 finiteCorners surveyOf view viewAt
   ground-holds =
       let sets : ScaledHolds f ⊎ AffineHolds f =
-      two-sets (none (ValueBytes Tag.scale)) (none (ValueBytes Tag.tiepoint)) (none (ValueBytes Tag.matrix)) (breaks-kept _ 0 rule20-kept)
+      two-sets (none (ValueBytes Tag.scale)) (none (ValueBytes Tag.tiepoint)) (none (ValueBytes Tag.matrix)) (breaks-kept _ 0 (rule20-kept f z))
       (λ s u v. inl (scaled s u v)) (λ v s u. inr (affine v s u)) in
-      let whole : finiteCorners (judgedOf f .corners) ≡ true = ap finiteCorners corners-are ∙ not-false _ (breaks-kept _ 0 rule22-kept) in
+      let whole : finiteCorners (judgedOf f .corners) ≡ true = ap finiteCorners corners-are ∙ not-false _ (breaks-kept _ 0 (rule22-kept f z)) in
       let a = and-eq (finite (judgedOf f .corners .x0)) _ whole in
       let b = and-eq (finite (judgedOf f .corners .y0)) _ (a .1) in
       let d = and-eq (finite (judgedOf f .corners .x1)) _ (b .1) in

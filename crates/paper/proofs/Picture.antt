@@ -1,23 +1,22 @@
 -- The pieces of an accepted file lie within it, and none of their bytes is on the reading list: so a file that differs from it in the picture
 -- alone agrees with it on the list. Assumes nothing.
-use Prim.Native.Nat.{ℕ, zero, suc, _+_, _-_, _*_, _≤_, _<_, min, max, zero-le, suc-le-suc}
-use mathlib.Core.Path.{_≡_, refl, sym, ap, ap₂, _∙_, subst}
-use mathlib.Core.Bool.{Bool, true, false, cond, not, _||_, _&&_, or-true}
-use mathlib.Core.List.{List, [], _∷_, _++_, map}
+use Prim.Native.Nat.{ℕ, zero, suc, _+_, _≤_, _<_, min, max, zero-le, suc-le-suc}
+use mathlib.Core.Path.{_≡_, refl, sym, subst}
+use mathlib.Core.Bool.{Bool, true, false, cond, _&&_}
+use mathlib.Core.List.{List, [], _∷_}
 use native.Mathlib.Omega.{arith}
-use lib.Dec.{T, eqb, leb, ltb, leb→le, ltb→lt, le→leb, lt→ltb}
+use lib.Dec.{T, eqb, leb, ltb, leb→le, ltb→lt}
 use lib.ListN.{length, getD}
-use borrow.Author.Tests.{eqb-true, eqb-false, ltb-false, lt-ltb, leb-true, ltb-true}
-use Rattle.paper.specs.Bytes.{run, num}
-use Rattle.paper.specs.Outcome.{Outcome, kept, broken, first, firstBad, verdict}
+use borrow.Author.Tests.{eqb-false, ltb-false, lt-ltb}
 use Rattle.paper.specs.Layout.{dirLen}
 use Rattle.paper.specs.Tests.{some}
-use Rattle.paper.specs.Pieces.{Part, part, Piece, shares, fullList, valueParts, badPiece, rule13, rule14, touches}
-use Rattle.paper.specs.Judge.{view, verdictOf, rules, readingList, past, viewAt, countParts, dirParts, heldParts, headIn, headOf, countIn, piecesOf, fullOf}
-use Rattle.paper.specs.Judge.{headRules, countRules, dirRules, viewRules, tagRules}
-use Rattle.paper.specs.Keys.{keyRules}
+use Rattle.paper.specs.Pieces.{Part, part, Piece, shares, fullList, badPiece, rule13, rule14, touches}
+use Rattle.paper.specs.Judge.{view, verdictOf, viewAt, headIn, countIn, piecesOf, fullOf, readingList, directoryParts, whereKept}
+use Rattle.paper.specs.Judge.{headStage, offsetStage, countStage, entryStage}
+use Rattle.paper.specs.Tags.{table}
+use Rattle.paper.specs.declared.Verdict.{Verdict}
 use Rattle.paper.proofs.Laws.{kept-all, T-true, or-false, or-both}
-use Rattle.paper.proofs.First.{all-kept, past-zero}
+use Rattle.paper.proofs.Keeps.{rule13-kept, rule14-kept}
 use Rattle.paper.specs.Asked.{inPart, onList, Agree, noPiece, Within, InPiece, Repainted}
 use Rattle.paper.proofs.Unseen.{in-part}
 
@@ -49,12 +48,30 @@ unshared i a (p ∷ ps) h t = go (inPart i p) refl (unshared i a ps (or-false (s
         cc
     go false e r = rw e r
 
--- where it is accepted, a file's reading list is within the full one of rule 14
-listed-full : (f : List ℕ) → verdictOf f .number ≡ 0 → (i : ℕ) → onList i (fullOf (view f)) ≡ false → onList i (readingList f) ≡ false
-unfolding readingList countParts dirParts heldParts onList fullOf fullList view viewAt some
-listed-full f z i h =
-    let a : (k : ℕ) → past k (verdictOf f .number) ≡ true = λ k. T-true _ (past-zero k z) in
-    simp (a) (or-both _ _ (go (inPart i (part 0 (min 8 (length f)))) refl) (or-false (inPart i (part 0 8)) _ h .1))
+-- what is read where a stage is kept is on no longer a list than where it is not asked
+kept-less : (i : ℕ) (v : Verdict) (ps : List Part) → onList i ps ≡ false → onList i (whereKept v ps) ≡ false
+unfolding onList some
+kept-less i v ps h = go (eqb (v .number) 0)
+  where
+    go : (b : Bool) → onList i (cond b ps []) ≡ false
+    go true = h
+    go false = refl
+
+-- what the stages of a directory let be read is within the full list
+directory-full : (f : List ℕ) (i : ℕ) → onList i (fullOf (view f)) ≡ false → onList i (directoryParts table f (headIn f)) ≡ false
+unfolding directoryParts onList fullOf fullList view viewAt some
+directory-full f i h =
+    let a = or-false (inPart i (part 0 8)) _ h in
+    let b = or-false (inPart i (part (headIn f .at) 2)) _ (a .1) in
+    let c = or-false (inPart i (part (headIn f .at) (dirLen (countIn f (headIn f))))) _ (b .1) in
+    kept-less i (offsetStage (headIn f)) _
+    (or-both _ _ (b .0) (kept-less i (countStage f (headIn f)) _ (or-both _ _ (c .0) (kept-less i (entryStage f (headIn f)) _ (c .1)))))
+
+-- a file's reading list is within the full one of rule 14
+listed-full : (f : List ℕ) (i : ℕ) → onList i (fullOf (view f)) ≡ false → onList i (readingList f) ≡ false
+unfolding readingList onList fullOf fullList some
+listed-full f i h =
+    or-both _ _ (go (inPart i (part 0 (min 8 (length f)))) refl) (kept-less i (headStage f) _ (directory-full f i h))
   where
     go : (b : Bool) → inPart i (part 0 (min 8 (length f))) ≡ b → inPart i (part 0 (min 8 (length f))) ≡ false
     go true e =
@@ -65,10 +82,6 @@ listed-full f z i h =
     go false e = e
 
 -- ---- where the pieces of an accepted file lie
-
-rule13-kept : (f : List ℕ) → verdictOf f .number ≡ 0 → rule13 (length f) (piecesOf (view f)) ≡ kept
-unfolding rules headRules countRules dirRules viewRules tagRules keyRules headIn headOf view viewAt
-rule13-kept f z = all-kept f z 13
 
 pub piece-within : (n : ℕ) (s : Piece) → badPiece n s ≡ false → Within n (s .place)
 unfolding badPiece
@@ -89,15 +102,11 @@ pieces-within f z k l =
 
 -- ---- and that none of their bytes is on the reading list
 
-rule14-kept : (f : List ℕ) → verdictOf f .number ≡ 0 → rule14 (fullOf (view f)) (piecesOf (view f)) ≡ kept
-unfolding rules headRules countRules dirRules viewRules tagRules keyRules
-rule14-kept f z = all-kept f z 14
-
 pub pieces-unread : (f : List ℕ) → verdictOf f .number ≡ 0 → (k : ℕ) → k < length (piecesOf (view f)) → (i : ℕ) → InPiece f k i
     → onList i (readingList f) ≡ false
 unfolding rule14 touches
 pieces-unread f z k l i t =
-    listed-full f z i
+    listed-full f i
     (unshared i (getD (piecesOf (view f)) k noPiece .place) (fullOf (view f)) (kept-all _ _ (piecesOf (view f)) noPiece (rule14-kept f z) k l) t)
 
 -- a repainted file agrees with it on the reading list

@@ -10,21 +10,18 @@ use lib.Dec.{eqb, leb, ltb, lit<}
 use lib.ListN.{length, getD}
 use borrow.Author.Tests.{eqb-true, leb-true, ltb-true, not-false}
 use Rattle.paper.specs.Bytes.{num, elems}
-use Rattle.paper.specs.Outcome.{kept}
 use Rattle.paper.specs.Tests.{some, between, allows}
 use Rattle.paper.specs.Layout.{sizeOf}
 use Rattle.paper.specs.Tag
 use Rattle.paper.specs.Tags.{Line, Held, table, sixteens, find, bytesOf, countOf, valuesOf, valueOf, stripTags, tileTags, hasSome, tiled, offsetsTag, byteCountsTag}
 use Rattle.paper.specs.Tags.{roundedUp, pieceCount, rule27, disallowed, rule11, rule12}
 use Rattle.paper.specs.Pieces.{Piece, placeAt, placesOf, pieces}
-use Rattle.paper.specs.Keys.{keyRules}
-use Rattle.paper.specs.Judge.{view, verdictOf, rules, headIn, viewAt, piecesOf}
-use Rattle.paper.specs.Judge.{headRules, countRules, dirRules, viewRules, tagRules}
+use Rattle.paper.specs.Judge.{view, verdictOf, headIn, viewAt, piecesOf}
 use Rattle.paper.specs.Asked.{noPiece}
 use Rattle.paper.specs.Shown.{hasTag, valueIn, tagCount, piecesIn, Rounded, PieceHolds, StripsHold, TilesHold, PiecesHold}
 use Rattle.paper.proofs.Laws.{and-eq, breaks-kept, kept-all, all-at, length-build, getD-build}
 use Rattle.paper.proofs.Codec.{length-elems, getD-elems}
-use Rattle.paper.proofs.First.{all-kept}
+use Rattle.paper.proofs.Keeps.{rule27-kept, rule11-kept, rule12-kept}
 use Rattle.paper.proofs.Bounds.{noLine}
 use Rattle.paper.proofs.Kept.{among, has-none}
 use Rattle.paper.proofs.Values.{nand, each-kept, lineAt, hasLine, present-count, present-number, present-value, needed}
@@ -64,18 +61,6 @@ one-family false true h = refl
 one-family false false h = absurd (true≢false h)
 
 module _ (f : List ℕ) (z : verdictOf f .number ≡ 0) where
-  rule27-kept : rule27 (view f .held) ≡ kept
-  unfolding rules headRules countRules dirRules viewRules tagRules keyRules
-  rule27-kept = all-kept f z 8
-
-  rule11-kept : rule11 table (headIn f .big) (view f .held) ≡ kept
-  unfolding rules headRules countRules dirRules viewRules tagRules keyRules view viewAt
-  rule11-kept = all-kept f z 11
-
-  rule12-kept : rule12 (headIn f .big) (view f .held) ≡ kept
-  unfolding rules headRules countRules dirRules viewRules tagRules keyRules view viewAt
-  rule12-kept = all-kept f z 12
-
   -- the number that it holds is allowed
   allowed : (i : ℕ) → i < length table → hasLine f i ≡ true → 1 ≤ lineAt i .least → lineAt i .values (valueIn f (lineAt i .tag)) ≡ true
   unfolding rule11 disallowed valuesOf
@@ -85,7 +70,7 @@ module _ (f : List ℕ) (z : verdictOf f .number ≡ 0) where
       let k : ℕ = countOf tag (view f .held) in
       let s = bytesOf tag (view f .held) in
       let some : 0 < k = omega (arith, present-count f z i l p .0) in
-      let good = nand (hasLine f i) _ (kept-all (disallowed (headIn f .big) (view f .held)) (λ (x : Line). x .tag) table noLine rule11-kept i l) p in
+      let good = nand (hasLine f i) _ (kept-all (disallowed (headIn f .big) (view f .held)) (λ (x : Line). x .tag) table noLine (rule11-kept f z) i l) p in
       let at : 0 < length (elems (headIn f .big) w k s) = subst (λ (n : ℕ). 0 < n) (sym (length-elems (headIn f .big) w k s)) some in
       subst (λ (v : ℕ). lineAt i .values v ≡ true) (getD-elems (headIn f .big) w k s 0 some ∙ present-number f z i 0 l p some)
       (all-at (lineAt i .values) (elems (headIn f .big) w k s) 0 good 0 at)
@@ -127,8 +112,8 @@ module _ (f : List ℕ) (z : verdictOf f .number ≡ 0) where
   unfolding rule12
   counts =
       let n : ℕ = pieceCount (headIn f .big) (view f .held) in
-      let a = breaks-kept (not (eqb (tagCount f (offsetsTag (view f .held))) n)) (offsetsTag (view f .held)) (each-kept _ rule12-kept 2) in
-      let b = breaks-kept (not (eqb (tagCount f (byteCountsTag (view f .held))) n)) (byteCountsTag (view f .held)) (each-kept _ rule12-kept 3) in
+      let a = breaks-kept (not (eqb (tagCount f (offsetsTag (view f .held))) n)) (offsetsTag (view f .held)) (each-kept _ (rule12-kept f z) 2) in
+      let b = breaks-kept (not (eqb (tagCount f (byteCountsTag (view f .held))) n)) (byteCountsTag (view f .held)) (each-kept _ (rule12-kept f z) 3) in
       (eqb-true _ _ (not-false _ a), eqb-true _ _ (not-false _ b))
 
   -- the piece at k, as it was made
@@ -194,7 +179,7 @@ module _ (f : List ℕ) (z : verdictOf f .number ≡ 0) where
 
   no-strip : Tiled ≡ true → hasSome stripTags (view f .held) ≡ false
   unfolding rule27
-  no-strip y = one-family (hasSome stripTags (view f .held)) Tiled (breaks-kept _ 0 rule27-kept) ∙ ap not y
+  no-strip y = one-family (hasSome stripTags (view f .held)) Tiled (breaks-kept _ 0 (rule27-kept f z)) ∙ ap not y
 
   in-tiles : Tiled ≡ true → TilesHold f
   unfolding table pieceCount among some

@@ -14,13 +14,12 @@ use Rattle.paper.specs.Tests.{all}
 use Rattle.paper.specs.Layout.{rule1, rule2, rule3, rule4, rule5, rule6, rule7, rule8}
 use Rattle.paper.specs.Tags.{Held, table, tiled, disagreements, rule27, rule9, rule10, rule11, rule12}
 use Rattle.paper.specs.Pieces.{Piece, placeAt, placesOf, pieces, rule13, rule14}
-use Rattle.paper.specs.Keys.{fixedKeys, keyRules, rule15, rule16, rule17, rule18, rule19}
+use Rattle.paper.specs.Keys.{fixedKeys, rule15, rule16, rule17, rule18, rule19}
 use Rattle.paper.specs.Ground.{rule20, rule21, rule22}
 use Rattle.paper.specs.Judge.{View, headOf, headIn, viewAt, view, piecesOf, verdictOf, rules}
-use Rattle.paper.specs.Judge.{headRules, countRules, dirRules, viewRules, tagRules, groundRules}
 use Rattle.paper.specs.Places.{In, FirstFault, Lowest, FirstPiece, LowestFault, pairsFrom, pairs, notGreater, FirstFall, placeless, Places, Placed}
 use Rattle.paper.proofs.Laws.{and-eq}
-use Rattle.paper.proofs.First.{verdict-rules}
+use Rattle.paper.proofs.First.{verdict-rules, ruled}
 use Rattle.paper.proofs.Tables.{table-order, fixed-order}
 use Rattle.paper.specs.declared.Verdict.{Verdict}
 
@@ -258,7 +257,7 @@ first-piece bad v p h =
 
 -- opens the rules of a file, so that the outcome of a number is that of its rule
 unfoldable opened : Unit {0}
-unfolding rules headRules countRules dirRules viewRules tagRules keyRules groundRules outcomeIn headIn headOf view viewAt
+unfolding ruled outcomeIn headIn headOf view viewAt
 opened = tt
 
 module _ (f : List ℕ) where

@@ -1,28 +1,27 @@
 -- A key block that is written and read back: verdict 0, the same K, the same keys and values. Assumes nothing.
-use Prim.Native.Nat.{ℕ, zero, suc, _+_, _-_, _*_, _/_, _^_, _≤_, _<_, min, zero-le, suc-le-suc}
+use Prim.Native.Nat.{ℕ, zero, suc, _+_, _-_, _*_, _/_, _^_, _≤_, _<_}
 use mathlib.Core.Path.{_≡_, refl, sym, ap, ap₂, _∙_, subst}
-use mathlib.Core.Bool.{Bool, true, false, cond, not, _||_, _&&_, false≢true}
+use mathlib.Core.Bool.{Bool, true, false, cond, not, _||_, _&&_}
 use mathlib.Core.List.{List, [], _∷_, _++_, map}
-use native.Mathlib.Nat.{add-zero, zero-add, add-suc, suc-add, mul-suc, mul-zero, add-assoc, not-suc-le-zero, le-of-suc-le-suc}
+use native.Mathlib.Nat.{zero-add, not-suc-le-zero, le-of-suc-le-suc}
 use native.Mathlib.Omega.{arith}
-use lib.Dec.{T, eqb, leb, ltb, lit<}
+use lib.Dec.{eqb, leb, ltb, lit<}
 use lib.ListN.{length, getD, take, drop, length-append, List·getD-append}
 use lib.Seq.{ext-getD, drop-append-add, getD-append-add}
-use borrow.Author.Tests.{eq-eqb, ne-eqb, eqb-true, eqb-false, le-leb, le-ltb, leb-true, ltb-true, ltb-false, not-false}
-use Rattle.paper.specs.Bytes.{num, enc, build, elems}
-use Rattle.paper.specs.Outcome.{Outcome, kept, broken, first, firstBad, firstOf, ascending, breaks, verdict}
+use borrow.Author.Tests.{eq-eqb, eqb-true, le-leb, le-ltb, leb-true, ltb-false, not-false}
+use Rattle.paper.specs.Bytes.{num, elems}
+use Rattle.paper.specs.Outcome.{kept, first, firstBad, verdict}
 use Rattle.paper.specs.Keys.{Runs, short, keyCount, keyAt, keys, rule15, rule16, rule17, rule18, rule19, keyRules, noKey, kindOf, room, within, rightPlace}
 use Rattle.paper.specs.Keys.{findKey, hasKey, fixedKeys, Fixed, fixed, forbidden, misplaced, kindIn, knownKeys}
 use Rattle.paper.specs.Tests.{all, allows}
 use Rattle.paper.specs.Calls.{backOf, readBack, readRuns, counted}
-use Rattle.paper.specs.Block
 use Rattle.paper.specs.Block.{joined, encs, elements, valuesAt, shortValues, doubleValues, characterValues, countAt, newIndex, withIndex, moved, movedKeys}
 use Rattle.paper.specs.Block.{entryNumbers, directoryNumbers, blockDirectory, blockDoubles, blockCharacters, rule24, tooFar}
-use Rattle.paper.specs.Asked.{Bytes, elementsOf, SameKey, SameKeys}
+use Rattle.paper.specs.Asked.{Bytes, elementsOf, SameKeys}
 use Rattle.paper.proofs.Laws.{num-bound, length-build, getD-build, kept-all, all-kept, kept-cond, first-same, all-at, and-eq, and-both, or-false, breaks-kept}
-use Rattle.paper.proofs.Codec.{Below, num-drop, getD-elems, num-encs, length-encs, elems-encs, sumAt, length-moved, moved-at, joined-at, joined-in, below-append, below-joined, below-values, length-values}
+use Rattle.paper.proofs.Codec.{num-drop, getD-elems, num-encs, length-encs, elems-encs, sumAt, length-moved, moved-at, joined-at, joined-in, length-values}
+use Rattle.paper.proofs.Codec.{Below, below-append, below-joined, below-values}
 use Rattle.paper.specs.declared.KeyEntry.{KeyEntry}
-use Rattle.paper.specs.declared.Counted.{Counted}
 
 -- ---- the values of one location, written behind others: their new place, and that they are the same there
 
@@ -334,7 +333,8 @@ module _ (r : Runs) (ok : Writable r) where
   below-directory : Below 65536 (directoryNumbers r)
   unfolding directoryNumbers shortValues keyCount
   below-directory =
-      below-append 65536 (1 ∷ 1 ∷ 0 ∷ short r 3 ∷ []) (joined entryNumbers (movedKeys r) ++ shortValues r) (below-four 65536 1 1 0 (short r 3) (lit< tt) (lit< tt) (lit< tt) (short-bound r 3 (ok .bytes35)))
+      below-append 65536 (1 ∷ 1 ∷ 0 ∷ short r 3 ∷ []) (joined entryNumbers (movedKeys r) ++ shortValues r)
+      (below-four 65536 1 1 0 (short r 3) (lit< tt) (lit< tt) (lit< tt) (short-bound r 3 (ok .bytes35)))
       (below-append 65536 (joined entryNumbers (movedKeys r)) (shortValues r) (below-joined 65536 entryNumbers noKey (movedKeys r) (lit< tt) below-moved)
       (below-joined 65536 (valuesAt (r .big) 34735 2 (r .directory)) noKey (keys r) (lit< tt) (λ i l. below-values (r .big) 34735 2 (r .directory) (Old i) (ok .bytes35))))
 

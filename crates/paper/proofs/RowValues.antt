@@ -14,19 +14,18 @@ use Rattle.paper.specs.Bytes.{run, num, build, elems}
 use Rattle.paper.specs.Outcome.{kept}
 use Rattle.paper.specs.Tag
 use Rattle.paper.specs.Tags.{bytesOf}
-use Rattle.paper.specs.Keys.{Runs, short, keys, keyAt, keyCount, noKey, keyRules, rule15, rule17, misplaced, rightPlace, inEntry, within, room, kindOf}
-use Rattle.paper.specs.Judge.{view, verdictOf, rules, runsOf, headIn, viewAt}
-use Rattle.paper.specs.Judge.{headRules, countRules, dirRules, viewRules, tagRules}
+use Rattle.paper.specs.Keys.{Runs, short, keys, keyAt, keyCount, noKey, rule15, rule17, misplaced, rightPlace, inEntry, within, room, kindOf}
+use Rattle.paper.specs.Judge.{view, verdictOf, runsOf, headIn, viewAt}
 use Rattle.paper.specs.Calls.{judgedOf, judgedIn, notJudged, Starts, startsOf, rowOf, rowAt, rowsIn, rowsOver, rowsLeft}
 use Rattle.paper.specs.Block.{elements}
 use Rattle.paper.specs.Asked.{elementsOf}
 use Rattle.paper.specs.Shown.{startIn, keysIn, keyIn, shortIn, KeysHold, widthAt, RowHolds, RowsHold}
 use Rattle.paper.proofs.Laws.{and-eq, or-false, breaks-kept, kept-all, num-run, length-build, getD-build}
 use Rattle.paper.proofs.Codec.{num-drop, length-elems, getD-elems}
-use Rattle.paper.proofs.First.{all-kept}
+use Rattle.paper.proofs.Keeps.{rule15-kept, rule17-kept}
 use Rattle.paper.proofs.Called.{answer-good}
-use Rattle.paper.proofs.Citation.{rule17-kept}
-use Rattle.paper.proofs.Values.{tag-part, tag-number}
+use Rattle.paper.proofs.Held.{tag-part}
+use Rattle.paper.proofs.Values.{tag-number}
 use Rattle.paper.proofs.RoundTrip.{key-at}
 use Rattle.paper.specs.declared.KeyEntry.{KeyEntry}
 use Rattle.paper.specs.declared.Row.{Row}
@@ -112,7 +111,7 @@ module _ (f : List ℕ) (i : ℕ) where
   tag-row t w at n wide pos is some room =
       let l : w * keyIn f i .index + w * keyIn f i .count ≤ length (bytesOf t (view f .held)) =
       subst (λ (x : ℕ). x ≤ length (bytesOf t (view f .held))) (mul-add w (keyIn f i .index) (keyIn f i .count)) room in
-      let part = tag-part f t (w * keyIn f i .index) (w * keyIn f i .count) (mul-pos pos some) l in
+      let part = tag-part f t (w * keyIn f i .index) (w * keyIn f i .count) (omega (arith, mul-pos pos some)) l in
       let width : widthAt (keyIn f i .location) ≡ w = ap widthAt at ∙ wide in
       record {
         key = refl;
@@ -134,7 +133,7 @@ module _ (f : List ℕ) (i : ℕ) where
   unfolding widthAt runsOf view viewAt
   own-row h kept15 at one =
       let long : 2 * (4 + 4 * keysIn f) ≤ length (bytesOf Tag.keyDirectory (view f .held)) = long-directory (runsOf (view f)) kept15 in
-      let part = tag-part f Tag.keyDirectory (2 * (7 + 4 * i)) 2 (lit< tt) (omega arith) in
+      let part = tag-part f Tag.keyDirectory (2 * (7 + 4 * i)) 2 (omega arith) (omega arith) in
       let width : widthAt (keyIn f i .location) ≡ 2 = ap widthAt at in
       let first : startIn f Tag.keyDirectory + (8 * i + 14) ≡ startIn f Tag.keyDirectory + 2 * (7 + 4 * i) = omega arith in
       record {
@@ -170,10 +169,6 @@ module _ (s : Starts) (i : ℕ) (e : KeyEntry) where
   made-character p = rw p
 
 module _ (f : List ℕ) (z : verdictOf f .number ≡ 0) where
-  rule15-kept : rule15 (runsOf (view f)) ≡ kept
-  unfolding rules headRules countRules dirRules viewRules tagRules keyRules
-  rule15-kept = all-kept f z 15
-
   -- each key is in its entry, or within the tag that it names
   key-placed : (i : ℕ) → i < keysIn f → inEntry (keyIn f i) || within (runsOf (view f)) (keyIn f i) ≡ true
   unfolding rule17 misplaced keys
@@ -188,7 +183,7 @@ module _ (f : List ℕ) (z : verdictOf f .number ≡ 0) where
   short-in : (j : ℕ) → j < 4 + 4 * keysIn f → short (runsOf (view f)) j ≡ shortIn f j
   unfolding short shortIn runsOf view viewAt
   short-in j h =
-      let long : 2 * (4 + 4 * keysIn f) ≤ length (bytesOf Tag.keyDirectory (view f .held)) = long-directory (runsOf (view f)) rule15-kept in
+      let long : 2 * (4 + 4 * keysIn f) ≤ length (bytesOf Tag.keyDirectory (view f .held)) = long-directory (runsOf (view f)) (rule15-kept f z) in
       tag-number f Tag.keyDirectory (headIn f .big) 2 (2 * j) (lit< tt) (omega arith)
 
   judged-keys : judgedOf f .keys ≡ keysIn f
@@ -224,7 +219,7 @@ module _ (f : List ℕ) (z : verdictOf f .number ≡ 0) where
     row-own p =
         let q = and-eq (eqb (E .location) 0) _ p in
         let at : E .location ≡ 0 = eqb-true _ _ (q .0) in
-        subst (RowHolds f i) (sym (made-own (startsOf (view f)) i E at)) (own-row f i h rule15-kept at (eqb-true _ _ (q .1)))
+        subst (RowHolds f i) (sym (made-own (startsOf (view f)) i E at)) (own-row f i h (rule15-kept f z) at (eqb-true _ _ (q .1)))
 
     -- the elements are within those of the tag that the location names
     module _ (some : 1 ≤ E .count) (fits : leb (E .index + E .count) (room (runsOf (view f)) (E .location)) ≡ true) where

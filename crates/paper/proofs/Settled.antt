@@ -1,20 +1,20 @@
 -- The layout of `Laid` leaves no byte open: two outputs, left of the same lent bytes, that are both laid out from the same keys are the same.
 -- Assumes nothing.
 use Prim.Native.Nat.{ℕ, zero, suc, _+_, _-_, _*_, _/_, _%_, _≤_, _<_, zero-le, suc-le-suc}
-use mathlib.Core.Path.{_≡_, refl, sym, ap, ap₂, _∙_, subst}
+use mathlib.Core.Path.{_≡_, refl, sym, ap, _∙_, subst}
 use mathlib.Core.Bool.{Bool, true, false, cond}
 use mathlib.Core.List.{List, [], _∷_}
 use native.Mathlib.Nat.{zero-add, mul-zero, mul-suc, not-suc-le-zero}
 use native.Mathlib.Omega.{arith}
 use lib.Dec.{eqb, ltb}
-use lib.ListN.{length, getD, take, drop}
+use lib.ListN.{length, getD, take}
 use lib.Seq.{ext-getD, getD-drop}
 use borrow.Author.Tests.{eqb-true, ltb-true, ltb-false}
-use Rattle.paper.specs.Bytes.{run, num, build}
+use Rattle.paper.specs.Bytes.{run, num}
 use Rattle.paper.specs.Keys.{Runs, keyCount, keyAt, keys, noKey}
 use Rattle.paper.specs.Calls.{backOf}
 use Rattle.paper.specs.Asked.{Bytes, elementsOf, lentRuns}
-use Rattle.paper.specs.Laid.{numberAt, numbersFrom, total, base, startIndex, fourth, directoryLength, doublesLength, charactersLength, bytesNeeded}
+use Rattle.paper.specs.Laid.{numberAt, numbersFrom, total, base, startIndex, directoryLength, doublesLength, charactersLength, bytesNeeded}
 use Rattle.paper.specs.Laid.{LaidEntry, LaidOut}
 use Rattle.paper.proofs.Laws.{getD-build, run-get, run-length-in, run-run}
 use Rattle.paper.proofs.RoundTrip.{length-keys, key-at}

@@ -13,6 +13,7 @@ use Rattle.paper.specs.Judge.{verdictOf, readingList}
 use Rattle.paper.specs.Block.{joined}
 use Rattle.paper.specs.Asked.{onList}
 use Rattle.paper.proofs.Computed.{computed}
+use Rattle.paper.proofs.Spelled.{spelled, table-spelled}
 use Rattle.paper.proofs.Kept.{among, always, before, rule12Before, strips, rulesBefore, verdictBefore, carries, verdict-kept}
 use Rattle.paper.proofs.Marked.{fileA, shorts, longs, entry, head, ground, keys, halves, area, accepted, refused, Example, answered, Reading, reading, allowedOf}
 
@@ -130,9 +131,9 @@ examples =
     ∷ refused (sets (spread 4) 282 (enc 4 305)) 14 2
     ∷ []
 
-pub marked : map answered examples ≡ map (λ x. x .gives) examples
-unfolding examples answered computed
-marked = refl
+pub marked : map (λ x. answered (x .lent) (x .file)) examples ≡ map (λ x. x .gives) examples
+unfolding examples answered spelled computed
+marked = table-spelled (λ x. x .file) (λ x. answered (x .lent)) (λ x. x .gives) examples refl
 
 -- ---- the reading list
 
@@ -166,23 +167,23 @@ readings =
     ∷ reading (sets neither 118 (enc 4 8)) 8 (whole 9 firsts)
     ∷ []
 
-pub allowed : map allowedOf readings ≡ map (λ x. x .gives) readings
-unfolding readings allowedOf computed
-allowed = refl
+pub allowed : map (λ x. allowedOf (x .file)) readings ≡ map (λ x. x .gives) readings
+unfolding readings allowedOf spelled computed
+allowed = table-spelled (λ x. x .file) (λ x. allowedOf) (λ x. x .gives) readings refl
 
 -- of T it is bytes 0 to 273: no byte of the tile
 pub listed-T : build (λ i. onList i (readingList fileT)) 0 282 ≡ replicate 274 true ++ replicate 8 false
 unfolding fileT computed
 listed-T = refl
 
--- ---- document 01 by itself
+-- ---- the judgement without C-11
 
 -- it has no tiles, so that T lacks a needed tag
 pub before-T : verdictBefore fileT ≡ verdict 9 273
 unfolding fileT computed among always before rule12Before strips rulesBefore verdictBefore
 before-T = refl
 
--- A is a file of strips, whose verdict is that of document 01
+-- A is a file of strips, whose verdict is the same
 pub kept-A : verdictOf fileA ≡ verdictBefore fileA
 unfolding fileA computed among carries
 kept-A = verdict-kept fileA refl refl

@@ -1,33 +1,28 @@
 -- The key block of an accepted file, as it stands in the lent bytes, reads back: verdict 0, the same K, the same keys with the same values.
 -- Assumes nothing.
-use Prim.Native.Nat.{ℕ, zero, suc, _+_, _-_, _*_, _≤_, _<_}
-use mathlib.Core.Path.{_≡_, refl, sym, ap, ap₂, _∙_, subst}
+use Prim.Native.Nat.{ℕ, zero, suc, _+_}
+use mathlib.Core.Path.{_≡_, refl, sym, ap, _∙_, subst}
 use mathlib.Core.Bool.{Bool, true, false, cond}
 use mathlib.Core.List.{List, [], _∷_, _++_, map, append-assoc}
-use native.Mathlib.Nat.{zero-add}
-use native.Mathlib.Omega.{arith}
-use lib.Dec.{eqb, lit<}
-use lib.ListN.{length, getD, take, drop, length-append}
-use lib.Seq.{take-append-seam, take-append-le, drop-append-seam, drop-append-add}
+use lib.Dec.{lit<}
+use lib.ListN.{length, take, drop}
+use lib.Seq.{take-append-seam, drop-append-seam, drop-append-add}
 use borrow.Author.Tests.{eqb-true, eqb-false, eq-eqb}
 use Rattle.paper.specs.Bytes.{run}
-use Rattle.paper.specs.Outcome.{Outcome, kept, broken, _▸_, first, verdict}
+use Rattle.paper.specs.Outcome.{kept, _▸_, verdict}
 use Rattle.paper.specs.Tests.{all}
-use Rattle.paper.specs.Tags.{Line, table, Held, hold, find, listed, bytesOf}
-use Rattle.paper.specs.Keys.{Runs, keyCount, keyRules}
-use Rattle.paper.specs.Judge.{View, view, verdictOf, rules, runsOf, viewAt, headIn, entriesIn}
-use Rattle.paper.specs.Judge.{headRules, countRules, dirRules, viewRules, tagRules}
+use Rattle.paper.specs.Tags.{Line, table, hold, find, listed, bytesOf}
+use Rattle.paper.specs.Keys.{Runs, keyCount}
+use Rattle.paper.specs.Judge.{view, verdictOf, runsOf, viewAt, headIn, entriesIn}
 use Rattle.paper.specs.Calls.{accepts, answer, backOf, readRuns, readBack}
-use Rattle.paper.specs.Block.{block, blockOf, blockIn, blockOver, blockLeft, blockVerdict, blockBytes, blockDirectory, blockDoubles, blockCharacters, rule24, rule25}
+use Rattle.paper.specs.Block.{blockOf, blockIn, blockOver, blockLeft, blockVerdict, blockBytes, blockDirectory, blockDoubles, blockCharacters, rule24, rule25}
 use Rattle.paper.specs.Asked.{Bytes, SameKeys, lentRuns}
 use Rattle.paper.proofs.Codec.{bytes-drop}
-use Rattle.paper.proofs.First.{all-kept, kept-first}
-use Rattle.paper.proofs.Citation.{held-bytes}
+use Rattle.paper.proofs.First.{kept-first}
+use Rattle.paper.proofs.Keeps.{rule15-kept, rule16-kept, rule17-kept, rule18-kept, rule19-kept}
+use Rattle.paper.proofs.Held.{held-bytes}
 use Rattle.paper.proofs.RoundTrip.{Writable, written, round-trip, same-keys}
-use Rattle.paper.specs.declared.Verdict.{Verdict}
 use Rattle.paper.specs.declared.Entry.{Entry}
-use Rattle.paper.specs.declared.Counted.{Counted}
-use Rattle.paper.specs.declared.Block.{Block}
 
 -- ---- a file's runs are bytes, and keep the rules
 
@@ -54,17 +49,17 @@ bytes-of f t b =
     subst (λ (s : List ℕ). Bytes s) (sym (held-bytes table f t (entriesIn f (headIn f)))) (bytes-hold table f (find t (map (hold table f) (entriesIn f (headIn f))) .entry) b)
 
 pub writable : (f : List ℕ) → Bytes f → verdictOf f .number ≡ 0 → rule24 (runsOf (view f)) ≡ kept → Writable (runsOf (view f))
-unfolding runsOf rules headRules countRules dirRules viewRules tagRules keyRules
+unfolding runsOf
 writable f b z k =
     record {
       bytes35 = bytes-of f 34735 b;
       bytes36 = bytes-of f 34736 b;
       bytes37 = bytes-of f 34737 b;
-      kept15 = all-kept f z 15;
-      kept16 = all-kept f z 16;
-      kept17 = all-kept f z 17;
-      kept18 = all-kept f z 18;
-      kept19 = all-kept f z 19;
+      kept15 = rule15-kept f z;
+      kept16 = rule16-kept f z;
+      kept17 = rule17-kept f z;
+      kept18 = rule18-kept f z;
+      kept19 = rule19-kept f z;
       kept24 = k;
     }
 

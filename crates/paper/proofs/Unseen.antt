@@ -1,28 +1,27 @@
 -- The picture never shows: two files of one length that agree on the reading list of the first have the same verdict and place, and where
 -- it is 0 the same view, of which every other answer is a function. Assumes nothing.
-use Prim.Native.Nat.{ℕ, zero, suc, _+_, _-_, _≤_, _<_, min}
-use mathlib.Core.Path.{_≡_, refl, sym, ap, ap₂, _∙_, subst}
-use mathlib.Core.Bool.{Bool, true, false, cond, _||_, _&&_, or-true}
-use mathlib.Core.List.{List, [], _∷_, _++_, map}
-use native.Mathlib.Nat.{add-zero, zero-add}
+use Prim.Native.Nat.{ℕ, _+_, _≤_, _<_, min}
+use mathlib.Core.Path.{_≡_, refl, ap, ap₂, _∙_}
+use mathlib.Core.Bool.{Bool, true, false, cond, _||_, _&&_}
+use mathlib.Core.List.{List, [], _∷_, map}
 use native.Mathlib.Omega.{arith}
-use lib.Dec.{T, eqb, leb, ltb, leb→le, ltb→lt, le→leb, lt→ltb}
-use lib.ListN.{length, getD}
+use lib.Dec.{T, leb, ltb, le→leb, lt→ltb}
+use lib.ListN.{length}
 use Rattle.paper.specs.Bytes.{run, num}
-use Rattle.paper.specs.Outcome.{Outcome, first, verdict, _▷_}
-use Rattle.paper.specs.Layout.{dirLen, entries}
-use Rattle.paper.specs.Tests.{all, some, keep}
+use Rattle.paper.specs.Outcome.{first, _▷_}
+use Rattle.paper.specs.Layout.{dirLen, entries, nextOffset}
+use Rattle.paper.specs.Tests.{some, keep}
 use Rattle.paper.specs.Tags.{Line, table, Held, hold, listed}
-use Rattle.paper.specs.Pieces.{Part, part, valueParts, fullList}
-use Rattle.paper.specs.Judge.{Head, View, headOf, headRun, headIn, countRun, countIn, dirRun, entriesIn, viewAt, view, verdictOf, readingList, past, reached, countParts, dirParts, heldParts}
-use Rattle.paper.specs.Keys.{keyRules}
-use Rattle.paper.specs.Judge.{headStage, countStage, dirStage, viewStage, headRules, countRules, dirRules, viewRules, tagRules, groundRules}
+use Rattle.paper.specs.Pieces.{Part, part, valueParts}
+use Rattle.paper.specs.Judge.{Head, View, headOf, headRun, headIn, countRun, countIn, dirRun, entriesIn, nextIn, viewAt, view, verdictOf}
+use Rattle.paper.specs.Judge.{headRules, countRules, entryRules, nextRules, whereKept, directoryParts, readingList}
+use Rattle.paper.specs.Judge.{headStage, offsetStage, countStage, entryStage, directoryStage, nextStage, pictureStage, surveyStage, imageStage}
 use Rattle.paper.specs.Asked.{inPart, onList, Agree}
 use Rattle.paper.proofs.Laws.{run-same}
-use Rattle.paper.proofs.First.{chain, chain-zero, past-first, past-less, past-chain, past-zero}
+use Rattle.paper.proofs.First.{chain, chain-both}
 use Rattle.paper.specs.Calls.{accepts, answer, judgedOf, rowsOf, rowsLeft, citedOf, textOf}
 use Rattle.paper.specs.Block.{blockOf, blockLeft}
-use borrow.Author.Tests.{eqb-true}
+use borrow.Author.Tests.{eq-eqb, eqb-true}
 use Rattle.paper.specs.declared.Row.{Row}
 use Rattle.paper.specs.declared.Verdict.{Verdict}
 use Rattle.paper.specs.declared.Entry.{Entry}
@@ -53,20 +52,6 @@ pub agree-tail : (f g : List ℕ) (p : Part) (ps : List Part) → Agree f g (p �
 unfolding onList some
 agree-tail f g p ps h i t = h i (or-right (inPart i p) _ t)
 
-or-map : (a b c : Bool) → (T b → T c) → T (a || b) → T (a || c)
-or-map true b c h t = tt
-or-map false b c h t = h t
-
-pub on-left : (i : ℕ) (ps qs : List Part) → T (onList i ps) → T (onList i (ps ++ qs))
-unfolding onList some
-on-left i [] qs t = absurd t
-on-left i (p ∷ ps) qs t = or-map (inPart i p) (onList i ps) (onList i (ps ++ qs)) (on-left i ps qs) t
-
-pub on-right : (i : ℕ) (ps qs : List Part) → T (onList i qs) → T (onList i (ps ++ qs))
-unfolding onList some
-on-right i [] qs t = t
-on-right i (p ∷ ps) qs t = or-right (inPart i p) _ (on-right i ps qs t)
-
 -- ---- the value bytes
 
 hold-same : (tb : List Line) (f g : List ℕ) (e : Entry) → (listed tb e ≡ true → run f (e .start) (e .len) ≡ run g (e .start) (e .len))
@@ -89,68 +74,78 @@ held-same tb f g (e ∷ es) n h =
     rest true p = agree-tail f g (part (e .start) (e .len)) _ (rw p at h)
     rest false p = rw p at h
 
--- ---- a directory, at a place that both files name, whichever directory it is
+-- ---- a directory with a table, at a place that both files name, whichever directory it is: they agree on what its stages let be read
 
-module _ (f g : List ℕ) (n : length f ≡ length g) (h : Head) where
-  pub count-here : Agree f g (part (h .at) 2 ∷ []) → countIn f h ≡ countIn g h
-  unfolding countIn countRun
-  count-here a = ap (λ (r : List ℕ). num (h .big) 2 r 0) (agree-head f g (part (h .at) 2) [] n a)
+-- what is read where a stage is kept
+agree-kept : (f g : List ℕ) (v : Verdict) (ps : List Part) → v .number ≡ 0 → Agree f g (whereKept v ps) → Agree f g ps
+agree-kept f g v ps z h = rw (eq-eqb (v .number) 0 z) at h
 
-  pub dir-here : countIn f h ≡ countIn g h → Agree f g (part (h .at) (dirLen (countIn f h)) ∷ []) → dirRun f h ≡ dirRun g h
-  unfolding dirRun
-  dir-here c a = agree-head f g (part (h .at) (dirLen (countIn f h))) [] n a ∙ ap (λ (k : ℕ). run g (h .at) (dirLen k)) c
+module _ (f g : List ℕ) (n : length f ≡ length g) (tb : List Line) (h : Head) (agree : Agree f g (directoryParts tb f h)) where
+  -- the parts behind the count
+  abbrev Directory : List Part
+  Directory = part (h .at) (dirLen (countIn f h)) ∷ whereKept (entryStage f h) (valueParts tb (viewAt tb f h .held))
 
-  pub entries-here : countIn f h ≡ countIn g h → dirRun f h ≡ dirRun g h → entriesIn f h ≡ entriesIn g h
-  unfolding entriesIn
-  entries-here c d = ap₂ (λ (k : ℕ) (r : List ℕ). entries (h .big) (h .at) k r) c d
+  module _ (four : offsetStage h .number ≡ 0) where
+    count-read : Agree f g (part (h .at) 2 ∷ whereKept (countStage f h) Directory)
+    unfolding directoryParts
+    count-read = agree-kept f g (offsetStage h) _ four agree
 
-  pub view-here : (tb : List Line) → countIn f h ≡ countIn g h → entriesIn f h ≡ entriesIn g h
-      → Agree f g (valueParts tb (map (hold tb f) (entriesIn f h))) → viewAt tb f h ≡ viewAt tb g h
-  unfolding viewAt
-  view-here tb c e a =
-      let d : map (hold tb f) (entriesIn f h) ≡ map (hold tb g) (entriesIn g h) =
-      held-same tb f g (entriesIn f h) n a ∙ ap (map (hold tb g)) e in
-      λ i. record { table = tb; head = h; count = c i; held = d i }
+    count-here : countIn f h ≡ countIn g h
+    unfolding countIn countRun
+    count-here = ap (λ (r : List ℕ). num (h .big) 2 r 0) (agree-head f g (part (h .at) 2) _ n count-read)
 
-agree-from : (f g : List ℕ) (b : Bool) (ps : List Part) → T b → Agree f g (cond b ps []) → Agree f g ps
-agree-from f g true ps t h = h
-agree-from f g false ps t h = absurd t
+    countStage-here : countStage f h ≡ countStage g h
+    unfolding countStage
+    countStage-here = ap (λ (c : ℕ). first (countRules h c)) count-here
 
-agree-left : (f g : List ℕ) (ps qs : List Part) → Agree f g (ps ++ qs) → Agree f g ps
-agree-left f g ps qs h i o = h i (on-left i ps qs o)
+    module _ (five : countStage f h .number ≡ 0) where
+      dir-read : Agree f g Directory
+      dir-read = agree-kept f g (countStage f h) _ five (agree-tail f g (part (h .at) 2) _ count-read)
 
-agree-right : (f g : List ℕ) (ps qs : List Part) → Agree f g (ps ++ qs) → Agree f g qs
-agree-right f g ps qs h i o = h i (on-right i ps qs o)
+      dir-here : dirRun f h ≡ dirRun g h
+      unfolding dirRun
+      dir-here = agree-head f g (part (h .at) (dirLen (countIn f h))) _ n dir-read ∙ ap (λ (k : ℕ). run g (h .at) (dirLen k)) count-here
 
--- ---- stage by stage
+      entries-here : entriesIn f h ≡ entriesIn g h
+      unfolding entriesIn
+      entries-here = ap₂ (λ (k : ℕ) (r : List ℕ). entries (h .big) (h .at) k r) count-here dir-here
 
--- the file's verdict is 0 or at least k
-abbrev pub Past : ℕ → List ℕ → Type 0
-Past k f = T (past k (verdictOf f .number))
+      entryStage-here : entryStage f h ≡ entryStage g h
+      unfolding entryStage
+      entryStage-here = ap (λ (es : List Entry). first (entryRules h es)) entries-here
 
--- what the list has from verdict j on, a verdict from k on has, where j is not above k
-opened : (k : ℕ) (f g : List ℕ) (j : ℕ) (ps : List Part) → j ≤ k → Past k f → Agree f g (reached j f ps) → Agree f g ps
-opened k f g j ps l t h = agree-from f g (past j (verdictOf f .number)) ps (past-less j k _ l t) h
+      values-read : entryStage f h .number ≡ 0 → Agree f g (valueParts tb (viewAt tb f h .held))
+      values-read seven = agree-kept f g (entryStage f h) _ seven (agree-tail f g (part (h .at) (dirLen (countIn f h))) _ dir-read)
 
--- which stages the verdict has passed, where the stages before give 0
-past8 : (f : List ℕ) → headStage f .number ≡ 0 → countStage f (headIn f) .number ≡ 0 → dirStage f (headIn f) .number ≡ 0 → Past 8 f
-unfolding verdictOf viewStage viewRules tagRules keyRules groundRules all
-past8 f a b c =
-    rw (chain-zero (headStage f) _ a, chain-zero (countStage f (headIn f)) _ b, chain-zero (dirStage f (headIn f)) _ c)
-    (past-first 8 (viewRules (view f)) refl)
+  -- rules 4 to 7
+  pub directory-here : directoryStage f h ≡ directoryStage g h
+  unfolding directoryStage
+  directory-here =
+      chain (offsetStage h) (offsetStage h) _ _ refl (λ z. chain (countStage f h) (countStage g h) _ _ (countStage-here z) (entryStage-here z))
 
-past6 : (f : List ℕ) → headStage f .number ≡ 0 → countStage f (headIn f) .number ≡ 0 → Past 6 f
-unfolding verdictOf dirStage viewStage dirRules viewRules tagRules keyRules groundRules all
-past6 f a b =
-    rw (chain-zero (headStage f) _ a, chain-zero (countStage f (headIn f)) _ b)
-    (past-chain 6 (dirStage f (headIn f)) _ (past-first 6 _ refl) (past-first 6 _ refl))
+  module _ (kept : directoryStage f h .number ≡ 0) where
+    four-here : offsetStage h .number ≡ 0
+    unfolding directoryStage
+    four-here = chain-both (offsetStage h) (countStage f h ▷ entryStage f h) kept .0
 
-past5 : (f : List ℕ) → headStage f .number ≡ 0 → Past 5 f
-unfolding verdictOf countStage dirStage viewStage countRules dirRules viewRules tagRules keyRules groundRules all
-past5 f a =
-    rw (chain-zero (headStage f) _ a)
-    (past-chain 5 (countStage f (headIn f)) _ (past-first 5 _ refl)
-    (past-chain 5 (dirStage f (headIn f)) _ (past-first 5 _ refl) (past-first 5 _ refl)))
+    rest-here : (countStage f h .number ≡ 0) × (entryStage f h .number ≡ 0)
+    unfolding directoryStage
+    rest-here = chain-both (countStage f h) (entryStage f h) (chain-both (offsetStage h) (countStage f h ▷ entryStage f h) kept .1)
+
+    pub next-here : nextIn f h ≡ nextIn g h
+    unfolding nextIn
+    next-here = ap₂ (λ (c : ℕ) (r : List ℕ). nextOffset (h .big) c r) (count-here four-here) (dir-here four-here (rest-here .0))
+
+    pub view-here : viewAt tb f h ≡ viewAt tb g h
+    unfolding viewAt
+    view-here =
+        let c : countIn f h ≡ countIn g h = count-here four-here in
+        let e : entriesIn f h ≡ entriesIn g h = entries-here four-here (rest-here .0) in
+        let d : map (hold tb f) (entriesIn f h) ≡ map (hold tb g) (entriesIn g h) =
+        held-same tb f g (entriesIn f h) n (values-read four-here (rest-here .0) (rest-here .1)) ∙ ap (map (hold tb g)) e in
+        λ i. record { table = tb; head = h; count = c i; held = d i }
+
+-- ---- a file
 
 module _ (f g : List ℕ) (n : length f ≡ length g) (h : Agree f g (readingList f)) where
   head-same : headRun f ≡ headRun g
@@ -166,59 +161,45 @@ module _ (f g : List ℕ) (n : length f ≡ length g) (h : Agree f g (readingLis
   unfolding headStage
   headStage-same = ap₂ (λ (k : ℕ) (r : List ℕ). first (headRules k r)) n head-same
 
-  -- the parts after the head
-  later : Agree f g (countParts f ++ (dirParts f ++ heldParts f))
-  unfolding readingList
-  later = agree-tail f g (part 0 (min 8 (length f))) _ h
+  module _ (three : headStage f .number ≡ 0) where
+    directory-read : Agree f g (directoryParts table f (headIn f))
+    unfolding readingList
+    directory-read = agree-kept f g (headStage f) _ three (agree-tail f g (part 0 (min 8 (length f))) _ h)
 
-  -- with the first file's head, in both
-  count-same : Past 5 f → countIn f (headIn f) ≡ countIn g (headIn f)
-  unfolding countParts
-  count-same t = count-here f g n (headIn f) (opened 5 f g _ _ (omega arith) t (agree-left f g (countParts f) _ later))
+    directory-same : directoryStage f (headIn f) ≡ directoryStage g (headIn g)
+    directory-same = directory-here f g n table (headIn f) directory-read ∙ ap (directoryStage g) headIn-same
 
-  five : Past 6 f → Past 5 f
-  five t = past-less 5 6 _ (omega arith) t
+    module _ (seven : directoryStage f (headIn f) .number ≡ 0) where
+      next-same : nextStage f ≡ nextStage g
+      unfolding nextStage
+      next-same = ap (λ (k : ℕ). first (nextRules k)) (next-here f g n table (headIn f) directory-read seven ∙ ap (nextIn g) headIn-same)
 
-  dir-same : Past 6 f → dirRun f (headIn f) ≡ dirRun g (headIn f)
-  unfolding dirParts
-  dir-same t =
-      dir-here f g n (headIn f) (count-same (five t))
-      (opened 6 f g _ _ (omega arith) t (agree-left f g (dirParts f) (heldParts f) (agree-right f g (countParts f) _ later)))
+      view-same : view f ≡ view g
+      unfolding view
+      view-same = view-here f g n table (headIn f) directory-read seven ∙ ap (viewAt table g) headIn-same
 
-  entries-same : Past 6 f → entriesIn f (headIn f) ≡ entriesIn g (headIn f)
-  entries-same t = entries-here f g n (headIn f) (count-same (five t)) (dir-same t)
+  image-same : imageStage f ≡ imageStage g
+  unfolding imageStage
+  image-same =
+      chain (headStage f) (headStage g) _ _ headStage-same
+      (λ x. chain (directoryStage f (headIn f)) (directoryStage g (headIn g)) _ _ (directory-same x)
+      (λ y. chain (nextStage f) (nextStage g) _ _ (next-same x y) (λ z. ap pictureStage (view-same x y))))
 
-  countStage-same : Past 5 f → countStage f (headIn f) ≡ countStage g (headIn g)
-  unfolding countStage
-  countStage-same t =
-      ap (λ (c : ℕ). first (countRules (headIn f) c)) (count-same t) ∙ ap (λ (x : Head). countStage g x) headIn-same
+  -- where rules 1 to 14 and 27 are kept, and so where all are
+  image-view : imageStage f .number ≡ 0 → view f ≡ view g
+  unfolding imageStage
+  image-view z =
+      let a = chain-both (headStage f) (directoryStage f (headIn f) ▷ (nextStage f ▷ pictureStage (view f))) z in
+      view-same (a .0) (chain-both (directoryStage f (headIn f)) (nextStage f ▷ pictureStage (view f)) (a .1) .0)
 
-  dirStage-same : Past 6 f → dirStage f (headIn f) ≡ dirStage g (headIn g)
-  unfolding dirStage
-  dirStage-same t =
-      let a = count-same (five t) in
-      let b = dir-same t in
-      let c = entries-same t in
-      (λ i. first (dirRules (headIn f) (a i) (b i) (c i))) ∙ ap (λ (x : Head). dirStage g x) headIn-same
-
-  six : Past 8 f → Past 6 f
-  six t = past-less 6 8 _ (omega arith) t
-
-  pub view-same : Past 8 f → view f ≡ view g
-  unfolding view viewAt heldParts
-  view-same t =
-      view-here f g n (headIn f) table (count-same (five (six t))) (entries-same (six t))
-      (opened 8 f g _ _ (omega arith) t (agree-right f g (dirParts f) (heldParts f) (agree-right f g (countParts f) _ later)))
-      ∙ ap (viewAt table g) headIn-same
+  pub accepted-view : verdictOf f .number ≡ 0 → view f ≡ view g
+  unfolding verdictOf
+  accepted-view z = image-view (chain-both (imageStage f) (surveyStage (view f)) z .0)
 
   -- Demand 3: verdict and place
   pub verdict-same : verdictOf f ≡ verdictOf g
   unfolding verdictOf
-  verdict-same =
-      chain (headStage f) (headStage g) _ _ headStage-same
-      (λ z1. chain (countStage f (headIn f)) (countStage g (headIn g)) _ _ (countStage-same (past5 f z1))
-      (λ z2. chain (dirStage f (headIn f)) (dirStage g (headIn g)) _ _ (dirStage-same (past6 f z1 z2))
-      (λ z3. ap viewStage (view-same (past8 f z1 z2 z3)))))
+  verdict-same = chain (imageStage f) (imageStage g) _ _ image-same (λ z. ap surveyStage (image-view z))
 
   -- Demand 3: every answer of every call, whatever it makes of the view
   pub answer-same : {A : Type 0} (good : View → A) (bad : Verdict → A) → answer f good bad ≡ answer g good bad
@@ -227,7 +208,7 @@ module _ (f g : List ℕ) (n : length f ≡ length g) (h : Agree f g (readingLis
     where
       go : (b : Bool) → accepts (verdictOf f) ≡ b
           → cond (accepts (verdictOf f)) (good (view f)) (bad (verdictOf f)) ≡ cond (accepts (verdictOf f)) (good (view g)) (bad (verdictOf f))
-      go true e = rw e (ap good (view-same (past-zero 8 (eqb-true _ _ e))))
+      go true e = rw e (ap good (accepted-view (eqb-true _ _ e)))
       go false e = rw e
 
   pub judged-same : judgedOf f ≡ judgedOf g

@@ -1,7 +1,7 @@
 -- The value of a tag of an accepted file: it is a part of the file, with the type and the count that the table asks for. Assumes nothing.
-use Prim.Native.Nat.{ℕ, zero, suc, _+_, _-_, _*_, _≤_, _<_, min}
+use Prim.Native.Nat.{ℕ, zero, suc, _+_, _*_, _≤_, _<_}
 use mathlib.Core.Path.{_≡_, refl, sym, ap, ap₂, _∙_, subst}
-use mathlib.Core.Bool.{Bool, true, false, cond, not, _||_, _&&_, true≢false, false≢true}
+use mathlib.Core.Bool.{Bool, true, false, not, _||_, _&&_, true≢false, false≢true}
 use mathlib.Core.List.{List, [], _∷_}
 use native.Mathlib.Nat.{add-zero, mul-zero, mul-suc, mul-le-mul-left}
 use native.Mathlib.Omega.{arith}
@@ -11,18 +11,15 @@ use borrow.Author.Tests.{eqb-true, leb-true, ltb-true, not-false}
 use Rattle.paper.specs.Bytes.{run, num, build}
 use Rattle.paper.specs.Outcome.{Outcome, kept, broken, firstOf}
 use Rattle.paper.specs.Tests.{all, some}
-use Rattle.paper.specs.Layout.{sizeOf, dirLen, entryAt, entryOf, entries, rule4, rule5, rule7}
+use Rattle.paper.specs.Layout.{sizeOf, dirLen, entryAt, entryOf, entries}
 use Rattle.paper.specs.Tags.{Line, table, Held, hold, find, absent, has, listed, inTable, bytesOf, countOf, valueOf, tiled, lacks, rule9, fitsLine}
-use Rattle.paper.specs.Keys.{keyRules}
-use Rattle.paper.specs.Judge.{view, verdictOf, rules, headOf, headIn, countIn, dirRun, viewAt, entriesIn}
-use Rattle.paper.specs.Judge.{headRules, countRules, dirRules, viewRules, tagRules}
+use Rattle.paper.specs.Judge.{view, verdictOf, headIn, countIn, dirRun, viewAt, entriesIn}
 use Rattle.paper.specs.Shown.{hasTag, startIn, numberIn, valueIn}
-use Rattle.paper.proofs.Laws.{and-eq, or-same, run-length, run-length-in, run-run, num-run, length-build, getD-build, all-at, kept-all}
-use Rattle.paper.proofs.First.{all-kept}
+use Rattle.paper.proofs.Laws.{and-eq, or-same, run-length-in, num-run, length-build, getD-build, all-at, kept-all}
+use Rattle.paper.proofs.Keeps.{rule4-kept, rule5-kept, rule7-kept, rule9-kept, rule10-kept}
 use Rattle.paper.proofs.Loops.{findEntry, find-entry}
 use Rattle.paper.proofs.Bounds.{Inside, rule4-gives, rule5-gives, found-all, found-inside, noLine, fits-line}
-use Rattle.paper.proofs.Citation.{held-bytes}
-use Rattle.paper.proofs.Metadata.{rule10-kept}
+use Rattle.paper.proofs.Held.{held-bytes, tag-part}
 use Rattle.paper.specs.declared.Entry.{Entry}
 
 -- ---- tests taken apart
@@ -42,30 +39,6 @@ nand false b h p = absurd (false≢true p)
 
 -- ---- a part of a value
 
--- a part of the bytes that are held for an entry: it lies in the file, and is a run of it
-pub record PartOf (f : List ℕ) (start : ℕ) (s : List ℕ) (a m : ℕ) : Type 0 where
-  pub inside : start + a + m ≤ length f
-  pub same : run f (start + a) m ≡ run s a m
-
-pub hold-part : (tb : List Line) (f : List ℕ) (e : Entry) (a m : ℕ) → 0 < m → a + m ≤ length (hold tb f e .bytes)
-    → PartOf f (e .start) (hold tb f e .bytes) a m
-unfolding hold
-hold-part tb f e a m p l = go (listed tb e) refl
-  where
-    go : (b : Bool) → listed tb e ≡ b → PartOf f (e .start) (cond (listed tb e) (run f (e .start) (e .len)) []) a m
-    go true q =
-        let x : a + m ≤ length (run f (e .start) (e .len)) = rw q at l in
-        let y : a + m ≤ min (e .len) (length f - e .start) = subst (λ (n : ℕ). a + m ≤ n) (run-length f (e .start) (e .len)) x in
-        rw q (record { inside = omega arith; same = sym (run-run f (e .start) (e .len) a m (omega arith)) })
-    go false q = let x : a + m ≤ 0 = rw q at l in absurd (omega arith)
-
--- the same, for a tag of a file
-pub tag-part : (f : List ℕ) (t a m : ℕ) → 0 < m → a + m ≤ length (bytesOf t (view f .held)) → PartOf f (startIn f t) (bytesOf t (view f .held)) a m
-unfolding view viewAt
-tag-part f t a m p l =
-    let e : bytesOf t (view f .held) ≡ hold table f (find t (view f .held) .entry) .bytes = held-bytes table f t (entriesIn f (headIn f)) in
-    rw e (hold-part table f (find t (view f .held) .entry) a m p (rw e at l))
-
 -- a number in the value is a number in the file
 pub tag-number : (f : List ℕ) (t : ℕ) (big : Bool) (w a : ℕ) → 0 < w → a + w ≤ length (bytesOf t (view f .held))
     → num big w (bytesOf t (view f .held)) a ≡ num big w f (startIn f t + a)
@@ -73,7 +46,7 @@ tag-number f t big w a p l =
     let s : List ℕ = bytesOf t (view f .held) in
     ap (num big w s) (sym (add-zero a))
     ∙ sym (num-run big w s a w 0 (omega arith))
-    ∙ sym (ap (λ (x : List ℕ). num big w x 0) (tag-part f t a w p l .same))
+    ∙ sym (ap (λ (x : List ℕ). num big w x 0) (tag-part f t a w (omega arith) l .same))
     ∙ num-run big w f (startIn f t + a) w 0 (omega arith)
     ∙ ap (num big w f) (add-zero (startIn f t + a))
 
@@ -127,18 +100,6 @@ unfolding all readable table inTable some sizeOf
 all-readable = refl
 
 module _ (f : List ℕ) (z : verdictOf f .number ≡ 0) where
-  rule4-kept : rule4 (length f) (headIn f .at) ≡ kept
-  unfolding rules headRules countRules dirRules viewRules tagRules keyRules headIn headOf
-  rule4-kept = all-kept f z 3
-
-  rule5-kept : rule5 (length f) (headIn f .at) (countIn f (headIn f)) ≡ kept
-  unfolding rules headRules countRules dirRules viewRules tagRules keyRules headIn headOf
-  rule5-kept = all-kept f z 4
-
-  rule7-kept : rule7 (length f) (entriesIn f (headIn f)) ≡ kept
-  unfolding rules headRules countRules dirRules viewRules tagRules keyRules headIn headOf
-  rule7-kept = all-kept f z 6
-
   -- the bytes of a value on the reading list are all there
   pub value-long : (t : ℕ) → listed table (find t (view f .held) .entry) ≡ true
       → length (bytesOf t (view f .held)) ≡ sizeOf (find t (view f .held) .entry .typ) * countOf t (view f .held)
@@ -147,10 +108,10 @@ module _ (f : List ℕ) (z : verdictOf f .number ≡ 0) where
       let e : Entry = find t (view f .held) .entry in
       let is : find t (view f .held) .entry ≡ findEntry t (entriesIn f (headIn f)) = find-entry table f t (entriesIn f (headIn f)) in
       let q : listed table (findEntry t (entriesIn f (headIn f))) ≡ true = rw is at p in
-      let low : 8 ≤ headIn f .at = rule4-gives _ _ rule4-kept .low in
-      let whole : headIn f .at + dirLen (countIn f (headIn f)) ≤ length f = rule5-gives _ _ _ rule5-kept .whole in
+      let low : 8 ≤ headIn f .at = rule4-gives _ _ (rule4-kept f z) .low in
+      let whole : headIn f .at + dirLen (countIn f (headIn f)) ≤ length f = rule5-gives _ _ _ (rule5-kept f z) .whole in
       let in-file : Inside (length f) (find t (view f .held) .entry) =
-      rw is (found-inside table (length f) (headIn f .at) (countIn f (headIn f)) (headIn f .big) (dirRun f (headIn f)) t low whole rule7-kept q) in
+      rw is (found-inside table (length f) (headIn f .at) (countIn f (headIn f)) (headIn f .big) (dirRun f (headIn f)) t low whole (rule7-kept f z) q) in
       let bytes : bytesOf t (view f .held) ≡ run f (e .start) (e .len) = held-bytes table f t (entriesIn f (headIn f)) ∙ rw p in
       let len : e .len ≡ sizeOf (e .typ) * e .count = rw is (len-is (headIn f .big) (headIn f .at) (countIn f (headIn f)) (dirRun f (headIn f)) t q) in
       ap length bytes ∙ run-length-in f (e .start) (e .len) (in-file .high) ∙ len
@@ -223,10 +184,6 @@ module _ (f : List ℕ) (z : verdictOf f .number ≡ 0) where
 
   -- ---- rule 9: a needed tag is there
 
-  rule9-kept : rule9 table (view f .held) ≡ kept
-  unfolding rules headRules countRules dirRules viewRules tagRules keyRules view viewAt
-  rule9-kept = all-kept f z 9
-
   pub needed : (i : ℕ) → i < length table → lineAt i .needed (tiled (view f .held)) ≡ true → hasLine f i ≡ true
   unfolding rule9 lacks
-  needed i l p = nand (lineAt i .needed (tiled (view f .held))) _ (kept-all (lacks (view f .held)) (λ (x : Line). x .tag) table noLine rule9-kept i l) p
+  needed i l p = nand (lineAt i .needed (tiled (view f .held))) _ (kept-all (lacks (view f .held)) (λ (x : Line). x .tag) table noLine (rule9-kept f z) i l) p

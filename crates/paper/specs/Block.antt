@@ -1,10 +1,10 @@
 -- Document 01, 'Key block': what is written, rules 24 and 25. Assumes nothing.
-use Prim.Native.Nat.{ℕ, _+_, _*_, _/_}
-use mathlib.Core.Bool.{Bool, true, false, cond, not, _&&_, _||_}
+use Prim.Native.Nat.{ℕ, _+_, _*_}
+use mathlib.Core.Bool.{Bool, cond, not, _&&_}
 use mathlib.Core.List.{List, [], _∷_, _++_}
-use lib.Dec.{ltb, leb, eqb}
-use lib.ListN.{length, take, drop}
-use Rattle.paper.specs.Bytes.{run, num, enc, elems}
+use lib.Dec.{ltb, eqb}
+use lib.ListN.{length, drop}
+use Rattle.paper.specs.Bytes.{enc, elems}
 use Rattle.paper.specs.Outcome.{Outcome, breaks, firstBad, _▸_, first}
 use Rattle.paper.specs.Tag
 use Rattle.paper.specs.Keys.{Runs, keys, keyCount}

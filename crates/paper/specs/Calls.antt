@@ -1,13 +1,13 @@
 -- What each call answers, and what it leaves in lent memory; rules 23 and 26. Assumes nothing.
 use Prim.Native.Nat.{ℕ, _+_, _-_, _*_}
-use mathlib.Core.Bool.{Bool, true, false, cond, not, _&&_, _||_}
+use mathlib.Core.Bool.{Bool, false, cond, not, _&&_}
 use mathlib.Core.List.{List, [], _∷_, _++_}
-use lib.Dec.{ltb, leb, eqb}
-use lib.ListN.{length, take, drop}
+use lib.Dec.{ltb, eqb}
+use lib.ListN.{length, drop}
 use Rattle.paper.specs.Bytes.{run, build}
 use Rattle.paper.specs.Outcome.{Outcome, breaks, _▸_, first, verdict}
 use Rattle.paper.specs.Tag
-use Rattle.paper.specs.Tags.{find, has, bytesOf}
+use Rattle.paper.specs.Tags.{find, has}
 use Rattle.paper.specs.Keys.{Runs, keyAt, keyCount, keys, hasKey, findKey, asciiKind, kindOf, keyRules}
 use Rattle.paper.specs.Ground.{corners, georeference, zero64}
 use Rattle.paper.specs.Judge.{View, view, runsOf, surveyOf, verdictOf}

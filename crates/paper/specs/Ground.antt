@@ -1,9 +1,9 @@
 -- Document 01, 'Place on the ground', and rules 20 to 22, over the runs of 33550, 33922 and 34264 (empty where absent), the image's size
 -- and whether the raster type is PixelIsPoint. Every operation is `lib.Ieee`'s, rounded once. Assumes nothing.
-use Prim.Native.Nat.{ℕ, _+_, _-_, _*_, _/_}
+use Prim.Native.Nat.{ℕ, _-_, _*_, _/_}
 use mathlib.Core.Bool.{Bool, true, false, cond, not, _&&_, _||_}
-use mathlib.Core.List.{List, [], _∷_, map}
-use lib.Dec.{ltb, leb, eqb}
+use mathlib.Core.List.{List, [], _∷_}
+use lib.Dec.{eqb}
 use lib.IntN.{pos}
 use lib.Ieee as Ieee
 use lib.Ieee.{Float, nan, inf, fin, binary64}

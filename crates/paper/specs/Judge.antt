@@ -1,13 +1,13 @@
 -- The judgement: rules 1 to 22 and 27 over a file, which is looked at only through runs, stage by stage, and the reading list.
 -- Assumes nothing.
-use Prim.Native.Nat.{ℕ, _+_, min}
-use mathlib.Core.Bool.{Bool, cond, not, _||_}
+use Prim.Native.Nat.{ℕ, min}
+use mathlib.Core.Bool.{Bool, cond}
 use mathlib.Core.List.{List, [], _∷_, _++_, map}
-use lib.Dec.{leb, eqb}
+use lib.Dec.{eqb}
 use lib.ListN.{length}
 use Rattle.paper.specs.Bytes.{run, num}
 use Rattle.paper.specs.Outcome.{Rule, _▸_, first, _▷_}
-use Rattle.paper.specs.Layout.{isBig, dirAt, dirLen, entries, rule1, rule2, rule3, rule4, rule5, rule6, rule7, rule8}
+use Rattle.paper.specs.Layout.{isBig, dirAt, dirLen, entries, nextOffset, rule1, rule2, rule3, rule4, rule5, rule6, rule7, rule8}
 use Rattle.paper.specs.Tag
 use Rattle.paper.specs.Tags.{Line, table, Held, hold, bytesOf, valueOf, rule27, rule9, rule10, rule11, rule12}
 use Rattle.paper.specs.Pieces.{pieces, Piece, Part, part, fullList, valueParts, rule13, rule14}
@@ -61,41 +61,48 @@ fullOf v = fullList (v .table) (v .head .at) (v .count) (v .held)
 -- ---- the rules, by stage
 
 unfoldable pub headRules : ℕ → List ℕ → List Rule
-headRules n head = 1 ▸ rule1 n ∷ 2 ▸ rule2 head ∷ 3 ▸ rule3 head ∷ 4 ▸ rule4 n (dirAt head) ∷ []
+headRules n head = 1 ▸ rule1 n ∷ 2 ▸ rule2 head ∷ 3 ▸ rule3 head ∷ []
+
+-- of a directory, at the place that h names: where it stands, its count, its entries, the next offset
+unfoldable pub offsetRules : Head → List Rule
+offsetRules h = 4 ▸ rule4 (h .size) (h .at) ∷ []
 
 unfoldable pub countRules : Head → ℕ → List Rule
 countRules h c = 5 ▸ rule5 (h .size) (h .at) c ∷ []
 
-unfoldable pub dirRules : Head → ℕ → List ℕ → List Entry → List Rule
-dirRules h c dir es = 6 ▸ rule6 es ∷ 7 ▸ rule7 (h .size) es ∷ 8 ▸ rule8 (h .big) c dir ∷ []
+unfoldable pub entryRules : Head → List Entry → List Rule
+entryRules h es = 6 ▸ rule6 es ∷ 7 ▸ rule7 (h .size) es ∷ []
 
-unfoldable pub tagRules : View → List Rule
-tagRules v =
+unfoldable pub nextRules : ℕ → List Rule
+nextRules next = 8 ▸ rule8 next ∷ []
+
+-- of its values, by its table
+unfoldable pub tableRules : View → List Rule
+tableRules v =
     27 ▸ rule27 (v .held)
     ∷ 9 ▸ rule9 (v .table) (v .held)
     ∷ 10 ▸ rule10 (v .table) (v .held)
     ∷ 11 ▸ rule11 (v .table) (v .head .big) (v .held)
     ∷ 12 ▸ rule12 (v .head .big) (v .held)
-    ∷ 13 ▸ rule13 (v .head .size) (piecesOf v)
-    ∷ 14 ▸ rule14 (fullOf v) (piecesOf v)
     ∷ []
 
+-- of its picture, which may touch none of the parts
+unfoldable pub pieceRules : List Part → View → List Rule
+pieceRules parts v = 13 ▸ rule13 (v .head .size) (piecesOf v) ∷ 14 ▸ rule14 parts (piecesOf v) ∷ []
+
+-- of the ground
 unfoldable pub groundRules : Survey → List Rule
 groundRules s = 20 ▸ rule20 s ∷ 21 ▸ rule21 s ∷ 22 ▸ rule22 (corners s) ∷ []
 
--- rules 27 and 9 to 22
-unfoldable pub viewRules : View → List Rule
-viewRules v = tagRules v ++ (keyRules (runsOf v) ++ groundRules (surveyOf v))
+-- rules 27 and 9 to 14
+unfoldable pub pictureRules : View → List Rule
+pictureRules v = tableRules v ++ pieceRules (fullOf v) v
 
--- ---- a file
+-- rules 15 to 22: they see the runs of the keys and of the ground, and the size
+unfoldable pub surveyRules : View → List Rule
+surveyRules v = keyRules (runsOf v) ++ groundRules (surveyOf v)
 
-unfoldable pub headRun : List ℕ → List ℕ
-headRun f = run f 0 8
-
-unfoldable pub headIn : List ℕ → Head
-headIn f = headOf (length f) (headRun f)
-
--- the directory of a file at the place that h names
+-- ---- a directory of a file, at the place that h names, with a table
 
 unfoldable pub countRun : List ℕ → Head → List ℕ
 countRun f h = run f (h .at) 2
@@ -109,19 +116,47 @@ dirRun f h = run f (h .at) (dirLen (countIn f h))
 unfoldable pub entriesIn : List ℕ → Head → List Entry
 entriesIn f h = entries (h .big) (h .at) (countIn f h) (dirRun f h)
 
+unfoldable pub nextIn : List ℕ → Head → ℕ
+nextIn f h = nextOffset (h .big) (countIn f h) (dirRun f h)
+
 unfoldable pub viewAt : List Line → List ℕ → Head → View
 viewAt tb f h = record { table = tb; head = h; count = countIn f h; held = map (hold tb f) (entriesIn f h) }
+
+unfoldable pub offsetStage : Head → Verdict
+offsetStage h = first (offsetRules h)
 
 unfoldable pub countStage : List ℕ → Head → Verdict
 countStage f h = first (countRules h (countIn f h))
 
-unfoldable pub dirStage : List ℕ → Head → Verdict
-dirStage f h = first (dirRules h (countIn f h) (dirRun f h) (entriesIn f h))
+unfoldable pub entryStage : List ℕ → Head → Verdict
+entryStage f h = first (entryRules h (entriesIn f h))
 
-unfoldable pub viewStage : View → Verdict
-viewStage v = first (viewRules v)
+-- rules 4 to 7: a stage is opened only where the one before is kept
+unfoldable pub directoryStage : List ℕ → Head → Verdict
+directoryStage f h = offsetStage h ▷ (countStage f h ▷ entryStage f h)
 
--- the image's own
+unfoldable pub directoryRules : List ℕ → Head → List Rule
+directoryRules f h = offsetRules h ++ (countRules h (countIn f h) ++ entryRules h (entriesIn f h))
+
+-- these parts, where a stage is kept
+abbrev pub whereKept : Verdict → List Part → List Part
+whereKept v ps = cond (eqb (v .number) 0) ps []
+
+-- What may be read of it, as far as its own stages went: its count where rule 4 is kept, all of it where rule 5 is, and the values of the table's tags
+-- where rules 6 and 7 are.
+unfoldable pub directoryParts : List Line → List ℕ → Head → List Part
+directoryParts tb f h =
+    whereKept (offsetStage h) (part (h .at) 2
+    ∷ whereKept (countStage f h) (part (h .at) (dirLen (countIn f h))
+    ∷ whereKept (entryStage f h) (valueParts tb (viewAt tb f h .held))))
+
+-- ---- a file
+
+unfoldable pub headRun : List ℕ → List ℕ
+headRun f = run f 0 8
+
+unfoldable pub headIn : List ℕ → Head
+headIn f = headOf (length f) (headRun f)
 
 unfoldable pub view : List ℕ → View
 view f = viewAt table f (headIn f)
@@ -129,36 +164,31 @@ view f = viewAt table f (headIn f)
 unfoldable pub headStage : List ℕ → Verdict
 headStage f = first (headRules (length f) (headRun f))
 
--- the verdict of all rules: a stage is opened only where the one before is kept
+unfoldable pub nextStage : List ℕ → Verdict
+nextStage f = first (nextRules (nextIn f (headIn f)))
+
+unfoldable pub pictureStage : View → Verdict
+pictureStage v = first (pictureRules v)
+
+unfoldable pub surveyStage : View → Verdict
+surveyStage v = first (surveyRules v)
+
+-- the verdict of rules 1 to 14 and 27, and of all rules
+unfoldable pub imageStage : List ℕ → Verdict
+imageStage f = headStage f ▷ (directoryStage f (headIn f) ▷ (nextStage f ▷ pictureStage (view f)))
+
 unfoldable pub verdictOf : List ℕ → Verdict
-verdictOf f = headStage f ▷ (countStage f (headIn f) ▷ (dirStage f (headIn f) ▷ viewStage (view f)))
+verdictOf f = imageStage f ▷ surveyStage (view f)
 
 -- the rules, in order: 27 stands after 8
 unfoldable pub rules : List ℕ → List Rule
 rules f =
     headRules (length f) (headRun f)
-    ++ (countRules (headIn f) (countIn f (headIn f))
-    ++ (dirRules (headIn f) (countIn f (headIn f)) (dirRun f (headIn f)) (entriesIn f (headIn f))
-    ++ viewRules (view f)))
+    ++ (directoryRules f (headIn f)
+    ++ (nextRules (nextIn f (headIn f))
+    ++ (pictureRules (view f)
+    ++ surveyRules (view f))))
 
--- ---- the reading list
-
--- verdict 0 or at least k
-unfoldable pub past : ℕ → ℕ → Bool
-past k v = eqb v 0 || leb k v
-
-abbrev pub reached : ℕ → List ℕ → List Part → List Part
-reached k f ps = cond (past k (verdictOf f .number)) ps []
-
--- what the verdict lets be read of the count, the directory and the values
-unfoldable pub countParts : List ℕ → List Part
-countParts f = reached 5 f (part (headIn f .at) 2 ∷ [])
-
-unfoldable pub dirParts : List ℕ → List Part
-dirParts f = reached 6 f (part (headIn f .at) (dirLen (countIn f (headIn f))) ∷ [])
-
-unfoldable pub heldParts : List ℕ → List Part
-heldParts f = reached 8 f (valueParts table (view f .held))
-
+-- the reading list: the head, and of the directory what its stages give; `Listed` has it in the document's words, by the verdict's number
 unfoldable pub readingList : List ℕ → List Part
-readingList f = part 0 (min 8 (length f)) ∷ (countParts f ++ (dirParts f ++ heldParts f))
+readingList f = part 0 (min 8 (length f)) ∷ whereKept (headStage f) (directoryParts table f (headIn f))

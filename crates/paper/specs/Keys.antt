@@ -1,7 +1,7 @@
 -- Document 01, 'Keys', and rules 15 to 19, over three runs and a byte order. In a file the runs are the values of 34735, 34736 and 34737,
 -- and an absent tag is an empty run. The call that reads a key block back has the same three runs and no file. Assumes nothing.
 use Prim.Native.Nat.{ℕ, zero, suc, _+_, _-_, _*_, _/_}
-use mathlib.Core.Bool.{Bool, true, false, cond, not, _&&_, _||_}
+use mathlib.Core.Bool.{Bool, cond, not, _&&_, _||_}
 use mathlib.Core.List.{List, [], _∷_, map}
 use lib.Dec.{ltb, leb, eqb}
 use lib.ListN.{length, getD}

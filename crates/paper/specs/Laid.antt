@@ -2,15 +2,16 @@
 -- `proofs/Laid` shows that the block which the call writes is laid out so. Assumes nothing.
 use Prim.Native.Nat.{ℕ, _+_, _*_, _≤_, _<_}
 use mathlib.Core.Path.{_≡_}
-use mathlib.Core.Bool.{false, cond}
+use mathlib.Core.Bool.{Bool, false, cond, not, _&&_}
 use mathlib.Core.List.{List, [], _∷_}
-use lib.Dec.{eqb}
+use lib.Dec.{eqb, ltb}
 use lib.ListN.{length, take, drop}
 use Rattle.paper.specs.Bytes.{num, build}
 use Rattle.paper.specs.Outcome.{verdict}
 use Rattle.paper.specs.Tag
 use Rattle.paper.specs.Keys.{Runs, keyCount, keyAt, keys}
 use Rattle.paper.specs.Asked.{Bytes, elementsOf, lentRuns}
+use Rattle.paper.specs.Places.{FirstFault}
 use Rattle.paper.specs.declared.Verdict.{Verdict}
 use Rattle.paper.specs.declared.Block.{Block}
 use Rattle.paper.specs.declared.KeyEntry.{KeyEntry}
@@ -81,21 +82,24 @@ pub record LaidOut (r : Runs) (b : Block) (out left : List ℕ) : Type 0 where
 -- ---- rules 24 and 25
 
 -- the value of key i would start past 65,535
-pub record Far (r : Runs) (i : ℕ) : Type 0 where
-  pub is : i < keyCount r
-  pub outside : keyAt r i .location ≡ 0 → ⊥
-  pub high : 65535 < startIndex r i
+unfoldable pub far : Runs → ℕ → Bool
+far r i = not (eqb (keyAt r i .location) 0) && ltb 65535 (startIndex r i)
+
+-- the keys by their numbers, counted from 0
+abbrev pub keyNumbers : Runs → List ℕ
+keyNumbers r = build (λ i. i) 0 (keyCount r)
 
 -- p is the first such key
-pub record FirstFar (r : Runs) (p : ℕ) : Type 0 where
-  pub at : ℕ
-  pub key : keyAt r at .key ≡ p
-  pub far : Far r at
-  pub before : (j : ℕ) → j < at → Far r j → ⊥
+abbrev pub FirstFar : Runs → ℕ → Type 0
+FirstFar r p = FirstFault (far r) (λ i. keyAt r i .key) (keyNumbers r) p
+
+-- there is none
+abbrev pub NoneFar : Runs → Type 0
+NoneFar r = (i : ℕ) → i < keyCount r → far r i ≡ false
 
 -- there is none, and m lent bytes are fewer than the block needs; the place p is the bytes needed
 pub record TooShort (r : Runs) (m p : ℕ) : Type 0 where
-  pub none : (i : ℕ) → Far r i → ⊥
+  pub none : NoneFar r
   pub room : m < bytesNeeded r
   pub place : p ≡ bytesNeeded r
 
@@ -105,4 +109,4 @@ pub record BlockRefusals (r : Runs) (m : ℕ) (v : Verdict) : Type 0 where
   pub far-only : (p : ℕ) → v ≡ verdict 24 p → FirstFar r p
   pub short : (p : ℕ) → TooShort r m p → v ≡ verdict 25 p
   pub short-only : (p : ℕ) → v ≡ verdict 25 p → TooShort r m p
-  pub written : ((i : ℕ) → Far r i → ⊥) → bytesNeeded r ≤ m → v ≡ verdict 0 0
+  pub written : NoneFar r → bytesNeeded r ≤ m → v ≡ verdict 0 0

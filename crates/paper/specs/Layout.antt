@@ -1,10 +1,10 @@
 -- Document 01, 'Layout', and rules 1 to 8: the head, the count, the directory.
 -- Each rule is a function of the file's length n and of runs of the file, never of the file itself. Assumes nothing.
 use Prim.Native.Nat.{ℕ, _+_, _*_, _%_}
-use mathlib.Core.Bool.{Bool, true, false, cond, not, _&&_, _||_}
+use mathlib.Core.Bool.{Bool, cond, not, _&&_, _||_}
 use mathlib.Core.List.{List, [], _∷_, map}
 use lib.Dec.{ltb, leb, eqb}
-use lib.ListN.{length, getD}
+use lib.ListN.{getD}
 use Rattle.paper.specs.Bytes.{num, build}
 use Rattle.paper.specs.Outcome.{Outcome, breaks, firstBad, ascending}
 use Rattle.paper.specs.declared.Entry.{Entry}
@@ -107,5 +107,8 @@ unfoldable pub rule7 : ℕ → List Entry → Outcome
 rule7 n es = firstBad (badValue n) (λ e. e .tag) es
 
 -- the next offset stands behind the entries
-unfoldable pub rule8 : Bool → ℕ → List ℕ → Outcome
-rule8 big c dir = breaks (not (eqb (num big 4 dir (2 + 12 * c)) 0)) 0
+unfoldable pub nextOffset : Bool → ℕ → List ℕ → ℕ
+nextOffset big c dir = num big 4 dir (2 + 12 * c)
+
+unfoldable pub rule8 : ℕ → Outcome
+rule8 next = breaks (not (eqb next 0)) 0

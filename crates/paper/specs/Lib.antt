@@ -1,3 +1,4 @@
+-- The definitions, file by file: first the rules in the order of the documents, from `Asked` on the words in which the theorems are put. Assumes nothing.
 pub mod Bytes
 pub mod Outcome
 pub mod Tests
@@ -12,6 +13,7 @@ pub mod Judge
 pub mod Calls
 pub mod Block
 pub mod Asked
+pub mod Listed
 pub mod Lent
 pub mod Places
 pub mod Shown

@@ -9,12 +9,9 @@ use Rattle.paper.specs.Outcome.{Outcome, firstBad}
 use Rattle.paper.specs.Tests.{some, keep}
 use Rattle.paper.specs.Layout.{sizeOf, dirLen}
 use Rattle.paper.specs.Tags.{Line, Held, find, bytesOf, countOf, listed, offsetsTag, byteCountsTag}
+pub use Rattle.paper.specs.declared.Part.{Part}
 
 -- so many bytes from a start
-pub record Part : Type 0 where
-  pub start : ℕ
-  pub len : ℕ
-
 abbrev pub part : ℕ → ℕ → Part
 part s l = record { start = s; len = l }
 

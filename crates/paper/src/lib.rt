@@ -13,6 +13,12 @@ pub enum Outcome {
     Broken(u32),
 }
 
+// A part of a file: so many bytes from a start.
+pub struct Part {
+    pub start: usize,
+    pub len: usize,
+}
+
 // An entry of a directory: its tag, type and count, where its value starts in the file and how many bytes it has.
 pub struct Entry {
     pub tag: usize,

@@ -11,51 +11,52 @@ use lib.ListN.{getD}
 use borrow.Author.Tests.{eqb-true, eqb-false, leb-true, le-leb, lt-leb, ltb-true, ltb-false, le-ltb, lt-ltb}
 use Rattle.paper.specs.Bytes.{build}
 use Rattle.paper.specs.Tests.{keep}
-use Rattle.paper.specs.Pieces.{Part, part}
+use Rattle.paper.specs.Pieces.{part}
+use Rattle.paper.specs.declared.Part.{Part}
 use Rattle.paper.proofs.Laws.{build-step, and-eq}
 use Rattle.paper.proofs.Loops.{build-end}
-use Rattle.pieces.specs.Gaps.{Low, rangeAt, wide, rangesOf, Found}
+use Rattle.pieces.specs.Gaps.{Addable, partAt, wide, partsOf, Found}
 use Rattle.pieces.proofs.Gaps.{Around, around-none, around-behind, around-before, found-gap}
 
--- ---- gap_of: the ranges from j on
+-- ---- gap_of: the parts from j on
 
-abbrev pub rangesFrom : List ℕ → List ℕ → ℕ → ℕ → List Part
-rangesFrom starts lens m j = keep wide (build (rangeAt starts lens) j (m - j))
+abbrev pub partsFrom : List ℕ → List ℕ → ℕ → ℕ → List Part
+partsFrom starts lens m j = keep wide (build (partAt starts lens) j (m - j))
 
 module _ (starts lens : List ℕ) (m : ℕ) where
-  abbrev Ranges : ℕ → List Part
-  Ranges j = rangesFrom starts lens m j
+  abbrev Parts : ℕ → List Part
+  Parts j = partsFrom starts lens m j
 
   abbrev At : ℕ → Part
   At j = part (getD starts j 0) (getD lens j 0)
 
-  ranges-none : Ranges m ≡ []
+  parts-none : Parts m ≡ []
   unfolding keep
-  ranges-none = ap (keep wide) (build-end (rangeAt starts lens) m)
+  parts-none = ap (keep wide) (build-end (partAt starts lens) m)
 
-  ranges-all : (j : ℕ) → j ≤ 0 → Ranges j ≡ rangesOf starts lens m
-  unfolding rangesOf
-  ranges-all j z =
+  parts-all : (j : ℕ) → j ≤ 0 → Parts j ≡ partsOf starts lens m
+  unfolding partsOf
+  parts-all j z =
       let a : j ≡ 0 = omega arith in
-      ap (λ (i : ℕ). keep wide (build (rangeAt starts lens) i (m - i))) a ∙ ap (λ (i : ℕ). keep wide (build (rangeAt starts lens) 0 i)) (sub-zero m)
+      ap (λ (i : ℕ). keep wide (build (partAt starts lens) i (m - i))) a ∙ ap (λ (i : ℕ). keep wide (build (partAt starts lens) 0 i)) (sub-zero m)
 
-  ranges-step : (j : ℕ) → 0 < j → j ≤ m → Ranges (j - 1) ≡ cond (wide (At (j - 1))) (At (j - 1) ∷ Ranges j) (Ranges j)
-  unfolding keep rangeAt
-  ranges-step j p q =
+  parts-step : (j : ℕ) → 0 < j → j ≤ m → Parts (j - 1) ≡ cond (wide (At (j - 1))) (At (j - 1) ∷ Parts j) (Parts j)
+  unfolding keep partAt
+  parts-step j p q =
       let k : j - 1 + 1 ≡ j = omega arith in
-      ap (keep wide) (build-step (rangeAt starts lens) (j - 1) m (omega arith))
-      ∙ ap (λ (i : ℕ). keep wide (rangeAt starts lens (j - 1) ∷ build (rangeAt starts lens) i (m - i))) k
+      ap (keep wide) (build-step (partAt starts lens) (j - 1) m (omega arith))
+      ∙ ap (λ (i : ℕ). keep wide (partAt starts lens (j - 1) ∷ build (partAt starts lens) i (m - i))) k
 
-  ranges-more : (j : ℕ) → 0 < j → j ≤ m → 4 < getD lens (j - 1) 0 → Ranges (j - 1) ≡ At (j - 1) ∷ Ranges j
+  parts-more : (j : ℕ) → 0 < j → j ≤ m → 4 < getD lens (j - 1) 0 → Parts (j - 1) ≡ At (j - 1) ∷ Parts j
   unfolding wide
-  ranges-more j p q w = ranges-step j p q ∙ rw (lt-ltb 4 (getD lens (j - 1) 0) w)
+  parts-more j p q w = parts-step j p q ∙ rw (lt-ltb 4 (getD lens (j - 1) 0) w)
 
-  ranges-same : (j : ℕ) → 0 < j → j ≤ m → getD lens (j - 1) 0 ≤ 4 → Ranges (j - 1) ≡ Ranges j
+  parts-same : (j : ℕ) → 0 < j → j ≤ m → getD lens (j - 1) 0 ≤ 4 → Parts (j - 1) ≡ Parts j
   unfolding wide
-  ranges-same j p q w = ranges-step j p q ∙ rw (le-ltb 4 (getD lens (j - 1) 0) w)
+  parts-same j p q w = parts-step j p q ∙ rw (le-ltb 4 (getD lens (j - 1) 0) w)
 
--- a range that counts ends within 64 bits
-pub end-fits : (starts lens : List ℕ) (j from : ℕ) → Low starts → Low lens → from ≡ cond (ltb 4 (getD lens j 0)) (getD starts j 0) 0
+-- a part that counts ends within 64 bits
+pub end-fits : (starts lens : List ℕ) (j from : ℕ) → Addable starts → Addable lens → from ≡ cond (ltb 4 (getD lens j 0)) (getD starts j 0) 0
     → from + getD lens j 0 < 18446744073709551616
 end-fits starts lens j from low short is-from = omega (arith, low j, short j, is-from, counted (ltb 4 (getD lens j 0)))
   where
@@ -97,10 +98,10 @@ raise-out lo s from to h = go (ltb s from) refl
         let l : to ≤ lo = ltb-false _ _ k in
         omega arith
 
--- one turn of gap_of over range j - 1, which counts as starting at `from`
-pub gap-turn : (starts lens : List ℕ) (m n s j lo hi : ℕ) → 0 < j → j ≤ m → 8 ≤ s → Around s n (rangesFrom starts lens m j) lo hi
+-- one turn of gap_of over part j - 1, which counts as starting at `from`
+pub gap-turn : (starts lens : List ℕ) (m n s j lo hi : ℕ) → 0 < j → j ≤ m → 8 ≤ s → Around s n (partsFrom starts lens m j) lo hi
     → (from lo′ hi′ : ℕ) → from ≡ cond (ltb 4 (getD lens (j - 1) 0)) (getD starts (j - 1) 0) 0 → hi′ ≡ cond (ltb s from) (min hi from) hi
-    → lo′ ≡ cond (ltb s from) lo (max lo (from + getD lens (j - 1) 0)) → Around s n (rangesFrom starts lens m (j - 1)) lo′ hi′
+    → lo′ ≡ cond (ltb s from) lo (max lo (from + getD lens (j - 1) 0)) → Around s n (partsFrom starts lens m (j - 1)) lo′ hi′
 unfolding wide
 gap-turn starts lens m n s j lo hi some-left few eight g from lo′ hi′ is-from is-hi is-lo = go (ltb 4 Len) refl (ltb s from) refl
   where
@@ -110,7 +111,7 @@ gap-turn starts lens m n s j lo hi some-left few eight g from lo′ hi′ is-fro
     Len : ℕ
     Len = getD lens (j - 1) 0
 
-    go : (a : Bool) → ltb 4 Len ≡ a → (b : Bool) → ltb s from ≡ b → Around s n (rangesFrom starts lens m (j - 1)) lo′ hi′
+    go : (a : Bool) → ltb 4 Len ≡ a → (b : Bool) → ltb s from ≡ b → Around s n (partsFrom starts lens m (j - 1)) lo′ hi′
     go false p b q =
         let short : Len ≤ 4 = ltb-false _ _ p in
         let none : from ≡ 0 = is-from ∙ rw p in
@@ -118,7 +119,7 @@ gap-turn starts lens m n s j lo hi some-left few eight g from lo′ hi′ is-fro
         let z : ltb s 0 ≡ false = le-ltb s 0 zero-le in
         let h : hi′ ≡ hi = is-hi ∙ rw (none, z) in
         let l : lo′ ≡ lo = is-lo ∙ rw (none, z, zero-add) (most lo Len (omega arith)) in
-        rw (ranges-same starts lens m j some-left few short, h, l) g
+        rw (parts-same starts lens m j some-left few short, h, l) g
       where
         most : (x y : ℕ) → y ≤ x → max x y ≡ x
         most x y k = omega arith
@@ -128,22 +129,22 @@ gap-turn starts lens m n s j lo hi some-left few eight g from lo′ hi′ is-fro
         let h : hi′ ≡ min hi First = is-hi ∙ rw (q, f) in
         let l : lo′ ≡ lo = is-lo ∙ rw q in
         let k : s < First = subst (λ (x : ℕ). s < x) f (ltb-true _ _ q) in
-        rw (ranges-more starts lens m j some-left few w, h, l) (around-behind s n (part First Len) (rangesFrom starts lens m j) lo hi g k p)
+        rw (parts-more starts lens m j some-left few w, h, l) (around-behind s n (part First Len) (partsFrom starts lens m j) lo hi g k p)
     go true p false q =
         let w : 4 < Len = ltb-true _ _ p in
         let f : from ≡ First = is-from ∙ rw p in
         let h : hi′ ≡ hi = is-hi ∙ rw q in
         let l : lo′ ≡ max lo (First + Len) = is-lo ∙ rw (q, f) in
         let k : First ≤ s = subst (λ (x : ℕ). x ≤ s) f (ltb-false _ _ q) in
-        rw (ranges-more starts lens m j some-left few w, h, l) (around-before s n (part First Len) (rangesFrom starts lens m j) lo hi g k)
+        rw (parts-more starts lens m j some-left few w, h, l) (around-before s n (part First Len) (partsFrom starts lens m j) lo hi g k)
 
-pub gap-start : (starts lens : List ℕ) (m n s : ℕ) → 8 ≤ s → Around s n (rangesFrom starts lens m m) 8 n
-gap-start starts lens m n s h = rw (ranges-none starts lens m) (around-none s n h)
+pub gap-start : (starts lens : List ℕ) (m n s : ℕ) → 8 ≤ s → Around s n (partsFrom starts lens m m) 8 n
+gap-start starts lens m n s h = rw (parts-none starts lens m) (around-none s n h)
 
-pub gap-end : (starts lens : List ℕ) (m n s j lo hi : ℕ) → j ≤ 0 → Around s n (rangesFrom starts lens m j) lo hi
-    → Found s n (rangesOf starts lens m) (record { lo = lo; hi = hi })
+pub gap-end : (starts lens : List ℕ) (m n s j lo hi : ℕ) → j ≤ 0 → Around s n (partsFrom starts lens m j) lo hi
+    → Found s n (partsOf starts lens m) (record { lo = lo; hi = hi })
 gap-end starts lens m n s j lo hi z g =
-    found-gap s n (rangesOf starts lens m) lo hi (subst (λ (ps : List Part). Around s n ps lo hi) (ranges-all starts lens m j z) g)
+    found-gap s n (partsOf starts lens m) lo hi (subst (λ (ps : List Part). Around s n ps lo hi) (parts-all starts lens m j z) g)
 
 -- ---- is_out: the ends of a place as counted from lo, in 64 bits
 

@@ -1,5 +1,5 @@
 -- What a gap is good for: a place that lies in it shares no byte with the list, and the gap around a place tells whether the place does. By
--- induction over the ranges. Assumes nothing.
+-- induction over the parts. Assumes nothing.
 use Prim.Native.Nat.{ℕ, _+_, _≤_, _<_, min, max}
 use mathlib.Core.Path.{_≡_, refl}
 use mathlib.Core.Bool.{Bool, true, false, _||_, or-true}
@@ -9,7 +9,8 @@ use native.Mathlib.Omega.{arith}
 use lib.Dec.{ltb, leb, eqb}
 use borrow.Author.Tests.{eqb-true, leb-true, ltb-true, ltb-false, lt-ltb, le-ltb, le-leb, eq-eqb}
 use Rattle.paper.specs.Tests.{all, some}
-use Rattle.paper.specs.Pieces.{Part, part, shares}
+use Rattle.paper.specs.Pieces.{part, shares}
+use Rattle.paper.specs.declared.Part.{Part}
 use Rattle.paper.proofs.Laws.{and-eq, and-both, or-false}
 use Rattle.pieces.specs.Gaps.{wide, clear, Found}
 
@@ -82,8 +83,8 @@ clear-free lo hi s l (p ∷ ps) a b h =
 
 -- ---- the gap around byte s of a file of n bytes
 
--- What is known of it when the ranges ps were seen: no range has a byte in it where s does not lie below it; a place from s on that leaves it, or
--- that starts below it, shares a byte with a range.
+-- What is known of it when the parts ps were seen: no part has a byte in it where s does not lie below it; a place from s on that leaves it, or
+-- that starts below it, shares a byte with a part.
 pub record Around (s n : ℕ) (ps : List Part) (lo hi : ℕ) : Type 0 where
   pub low : 8 ≤ lo
   pub high : hi ≤ n
@@ -98,7 +99,7 @@ module _ (s n : ℕ) where
       record { low = omega arith; high = omega arith; clean = λ a. refl; held = λ a l b. absurd (omega arith); reach = λ l a b. absurd (omega arith) }
 
   module _ (p : Part) (ps : List Part) (lo hi : ℕ) (g : Around s n ps lo hi) where
-    -- a range behind s
+    -- a part behind s
     pub around-behind : s < p .start → wide p ≡ true → Around s n (p ∷ ps) lo (min hi (p .start))
     unfolding all some wide
     around-behind b w =
@@ -125,7 +126,7 @@ module _ (s n : ℕ) where
                 let k = long in
                 rw (shares-yes s l p (omega arith))
 
-    -- a range that starts at s or before
+    -- a part that starts at s or before
     pub around-before : p .start ≤ s → Around s n (p ∷ ps) (max lo (p .start + p .len)) hi
     unfolding all some
     around-before b =
@@ -148,7 +149,7 @@ module _ (s n : ℕ) where
                 let h : lo ≤ s = ltb-false _ _ e in
                 rw (shares-yes s l p (omega arith))
 
-  -- all ranges were seen
+  -- all parts were seen
   pub found-gap : (ps : List Part) (lo hi : ℕ) → Around s n ps lo hi → Found s n ps (record { lo = lo; hi = hi })
   found-gap ps lo hi g =
       record {

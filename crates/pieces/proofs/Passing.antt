@@ -11,7 +11,8 @@ use borrow.Author.Tests.{eqb-false, ltb-false, le-ltb}
 use Rattle.paper.specs.Bytes.{num, build}
 use Rattle.paper.specs.Outcome.{firstBad, orElse, first, verdict}
 use Rattle.paper.specs.Tests.{all, some}
-use Rattle.paper.specs.Pieces.{Part, part, Piece, shares, placeAt, placesOf, badPiece, touches, rule13, rule14}
+use Rattle.paper.specs.Pieces.{part, Piece, shares, placeAt, placesOf, badPiece, touches, rule13, rule14}
+use Rattle.paper.specs.declared.Part.{Part}
 use Rattle.paper.specs.declared.Outcome.{Outcome}
 use Rattle.paper.specs.declared.Outcome.the-variants.{Kept as kept, Broken as broken}
 use Rattle.paper.specs.declared.Verdict.{Verdict}
@@ -33,6 +34,12 @@ some-bytes : (x : ℕ) → eqb x 0 ≡ false → 0 < x
 some-bytes zero h = absurd (eqb-false 0 0 h refl)
 some-bytes (suc x) h = suc-le-suc zero-le
 
+or-turned : (x y z : Bool) → x || (y || z) ≡ true → y || (x || z) ≡ true
+or-turned true true z h = refl
+or-turned true false z h = refl
+or-turned false true z h = refl
+or-turned false false z h = h
+
 -- ---- the answers of judge_places, by the outcomes of the two rules
 
 module _ (n : ℕ) (ps : List Part) (ss : List Piece) where
@@ -48,22 +55,22 @@ module _ (n : ℕ) (ps : List Part) (ss : List Piece) where
   unfolding placesJudged first
   answer-0 h e = rw (h, e)
 
-module _ (big : Bool) (a : ℕ) (offsets : List ℕ) (b : ℕ) (counts : List ℕ) (k : ℕ) where
+module _ (big : Bool) (a : ℕ) (offsets : List ℕ) (b : ℕ) (bytecounts : List ℕ) (k : ℕ) where
   abbrev Places : List Piece
-  Places = placesOf big a offsets b counts k
+  Places = placesOf big a offsets b bytecounts k
 
   abbrev From : ℕ → List Piece
-  From i = fromPlace big a offsets b counts i k
+  From i = fromPlace big a offsets b bytecounts i k
 
   from-start : Places ≡ From 0
   unfolding fromPlace placesOf
-  from-start = ap (build (placeAt big a offsets b counts) 0) (sym (sub-zero k))
+  from-start = ap (build (placeAt big a offsets b bytecounts) 0) (sym (sub-zero k))
 
   -- no place is left
   module _ (i : ℕ) (l : i ≤ k) (m : k ≤ i) where
     from-end : From i ≡ []
     unfolding fromPlace
-    from-end = let e : i ≡ k = omega arith in rw e (build-end (placeAt big a offsets b counts) k)
+    from-end = let e : i ≡ k = omega arith in rw e (build-end (placeAt big a offsets b bytecounts) k)
 
     none-13 : (n : ℕ) → rule13 n (From i) ≡ kept
     unfolding rule13 firstBad
@@ -75,11 +82,11 @@ module _ (big : Bool) (a : ℕ) (offsets : List ℕ) (b : ℕ) (counts : List �
 
   -- ---- place i, with the offset and the byte count that code fetched
 
-  module _ (i : ℕ) (l : i < k) (start len : ℕ) (is-start : start ≡ num big a offsets (a * i)) (is-len : len ≡ num big b counts (b * i)) where
+  module _ (i : ℕ) (l : i < k) (start len : ℕ) (is-start : start ≡ num big a offsets (a * i)) (is-len : len ≡ num big b bytecounts (b * i)) where
     here : From i ≡ record { index = i; place = part start len } ∷ From (i + 1)
     unfolding fromPlace placeAt
     here =
-        build-step (placeAt big a offsets b counts) i k l
+        build-step (placeAt big a offsets b bytecounts) i k l
         ∙ sym (λ j. record { index = i; place = part (is-start j) (is-len j) } ∷ From (i + 1))
 
     module _ (n : ℕ) where
@@ -111,7 +118,7 @@ module _ (big : Bool) (a : ℕ) (offsets : List ℕ) (b : ℕ) (counts : List �
     passed-start = record { thirteen = λ n l h. refl; fourteen = λ ps h. refl }
 
     module _ (i : ℕ) (low : from ≤ i) (high : i ≤ k) (p : Passed i) where
-      pub passed-end : k ≤ i → Skipped big a offsets b counts k lo hi from (record { at = k; start = 0; len = 0 })
+      pub passed-end : k ≤ i → Skipped big a offsets b bytecounts k lo hi from (record { at = k; start = 0; len = 0 })
       passed-end m =
           let e : i ≡ k = omega arith in
           record {
@@ -120,19 +127,22 @@ module _ (big : Bool) (a : ℕ) (offsets : List ℕ) (b : ℕ) (counts : List �
             start = λ l. absurd (lt-irrefl k l);
             len = λ l. absurd (lt-irrefl k l);
             small = (lit< tt, lit< tt);
+            out = λ l. absurd (lt-irrefl k l);
             thirteen = λ n l h. p .thirteen n l h ∙ ap (λ (j : ℕ). rule13 n (From j)) e;
             fourteen = λ ps h. p .fourteen ps h ∙ ap (λ (j : ℕ). rule14 ps (From j)) e;
           }
 
-      module _ (start len : ℕ) (is-start : start ≡ num big a offsets (a * i)) (is-len : len ≡ num big b counts (b * i)) where
-        pub passed-stop : start < 4294967296 → len < 4294967296 → Skipped big a offsets b counts k lo hi from (record { at = i; start = start; len = len })
-        passed-stop x y =
+      module _ (start len : ℕ) (is-start : start ≡ num big a offsets (a * i)) (is-len : len ≡ num big b bytecounts (b * i)) where
+        pub passed-stop : start < 4294967296 → len < 4294967296 → (out : Bool) → out ≡ ltb start lo || (eqb len 0 || ltb hi (start + len)) → out ≡ true
+            → Skipped big a offsets b bytecounts k lo hi from (record { at = i; start = start; len = len })
+        passed-stop x y out is-out t =
             record {
               low = low;
               high = high;
               start = λ l. is-start;
               len = λ l. is-len;
               small = (x, y);
+              out = λ l. sym is-out ∙ t;
               thirteen = p .thirteen;
               fourteen = p .fourteen;
             }
@@ -146,35 +156,35 @@ module _ (big : Bool) (a : ℕ) (offsets : List ℕ) (b : ℕ) (counts : List �
                   (clear-free lo hi start len ps before behind (h (omega (arith, before, behind, some-bytes len (rest .0)))));
             }
           where
-            parts : (ltb start lo ≡ false) × (eqb len 0 || ltb hi (start + len) ≡ false)
-            parts = or-false (ltb start lo) _ (sym is-out ∙ t)
+            halves : (ltb start lo ≡ false) × (eqb len 0 || ltb hi (start + len) ≡ false)
+            halves = or-false (ltb start lo) _ (sym is-out ∙ t)
 
             rest : (eqb len 0 ≡ false) × (ltb hi (start + len) ≡ false)
-            rest = or-false (eqb len 0) _ (parts .1)
+            rest = or-false (eqb len 0) _ (halves .1)
 
             before : lo ≤ start
-            before = ltb-false _ _ (parts .0)
+            before = ltb-false _ _ (halves .0)
 
             behind : start + len ≤ hi
             behind = ltb-false _ _ (rest .1)
 
   module _ (n : ℕ) where
-    -- ---- after_clash: the places before i keep rule 13
+    -- ---- after_clash: a search over the places that lie from 8 up to n
 
-    module _ (clash from i : ℕ) (on : rule13 n (From from) ≡ rule13 n (From i)) where
+    module _ (clash from : ℕ) (s : Stop) (sk : Skipped big a offsets b bytecounts k 8 n from s) where
       abbrev Answer : Outcome → Verdict
       Answer o = orElse 13 o (verdict 14 clash)
 
-      pub later-none : i ≤ k → k ≤ i → verdict 14 clash ≡ Answer (rule13 n (From from))
-      later-none l m = sym (ap Answer (on ∙ none-13 i l m n))
+      on : rule13 n (From from) ≡ rule13 n (From (s .at))
+      on = sk .thirteen n (omega arith) (omega arith)
 
-      module _ (l : i < k) (start len : ℕ) (is-start : start ≡ num big a offsets (a * i)) (is-len : len ≡ num big b counts (b * i)) (bad : Bool)
-          (is-bad : bad ≡ eqb len 0 || (ltb start 8 || ltb n (start + len))) where
-        pub later-bad : bad ≡ true → verdict 13 i ≡ Answer (rule13 n (From from))
-        later-bad t = sym (ap Answer (on ∙ bad-here i l start len is-start is-len n (sym is-bad ∙ t)))
+      pub later-none : k ≤ s .at → verdict 14 clash ≡ Answer (rule13 n (From from))
+      later-none m = sym (ap Answer (on ∙ none-13 (s .at) (sk .high) m n))
 
-        pub later-good : bad ≡ false → rule13 n (From from) ≡ rule13 n (From (i + 1))
-        later-good t = on ∙ good-here i l start len is-start is-len n (sym is-bad ∙ t)
+      pub later-bad : s .at < k → verdict 13 (s .at) ≡ Answer (rule13 n (From from))
+      later-bad l =
+          let bad = or-turned (ltb (s .start) 8) (eqb (s .len) 0) (ltb n (s .start + s .len)) (sk .out l) in
+          sym (ap Answer (on ∙ bad-here (s .at) l (s .start) (s .len) (sk .start l) (sk .len l) n bad))
 
     -- ---- judge_places
 
@@ -204,7 +214,7 @@ module _ (big : Bool) (a : ℕ) (offsets : List ℕ) (b : ℕ) (counts : List �
         going-end l m = answer-0 n ps Places (g .thirteen ∙ none-13 i l m n) (g .fourteen ∙ none-14 i l m ps)
 
         -- a search stopped at s
-        module _ (s : Stop) (sk : Skipped big a offsets b counts k lo hi i s) where
+        module _ (s : Stop) (sk : Skipped big a offsets b bytecounts k lo hi i s) where
           on-13 : rule13 n Places ≡ rule13 n (From (s .at))
           on-13 = g .thirteen ∙ sk .thirteen n (g .low) (g .high)
 

@@ -8,7 +8,7 @@ ghost use lib.ListN.{length};
 ghost use Rattle.order.specs.Width.{width};
 ghost use Rattle.paper.specs.Outcome.{orElse, verdict};
 ghost use Rattle.paper.specs.Pieces.{placesOf, rule13};
-ghost use Rattle.pieces.specs.Gaps.{Low, fromPlace, rangesOf, Found, Skipped, placesJudged};
+ghost use Rattle.pieces.specs.Gaps.{Addable, fromPlace, partsOf, Found, Skipped, placesJudged};
 use paper::Verdict;
 
 // A gap of the reading list around a byte: no byte from lo up to hi is on it. Where the byte itself is on the list, it lies below lo.
@@ -32,14 +32,14 @@ fn is_bad(start: usize, len: usize, n: usize) -> bool
     (len == 0) | ((start < 8) | (n < start + len))
 }
 
-// Where a range starts that counts, and 0 for one of at most 4 bytes: that lies in an entry, and so in the range of the whole directory.
+// Where a part starts that counts, and 0 for one of at most 4 bytes: that lies in an entry, and so in the part of the whole directory.
 fn counted(from: usize, len: usize) -> usize
     ensures { λ r. ⌜ r ≡ cond (ltb 4 len) from 0 ⌝ }
 {
     if 4 < len { from } else { 0 }
 }
 
-// The high end of a gap around a byte, with one range more that starts at `from`.
+// The high end of a gap around a byte, with one part more that starts at `from`.
 fn lowered(hi: usize, byte: usize, from: usize) -> usize
     ensures { λ r. ⌜ r ≡ cond (ltb byte from) (min hi from) hi ⌝ }
 {
@@ -49,7 +49,7 @@ fn lowered(hi: usize, byte: usize, from: usize) -> usize
     hi
 }
 
-// The low end, with one range more from `from` up to `to`.
+// The low end, with one part more from `from` up to `to`.
 fn raised(lo: usize, byte: usize, from: usize, to: usize) -> usize
     ensures { λ r. ⌜ r ≡ cond (ltb byte from) lo (max lo to) ⌝ }
 {
@@ -59,11 +59,11 @@ fn raised(lo: usize, byte: usize, from: usize, to: usize) -> usize
     lo
 }
 
-// The gap around a byte of a file of n bytes, among m ranges that each have a start and a length. Nothing in it depends on a test that the
+// The gap around a byte of a file of n bytes, among m parts that each have a start and a length. Nothing in it depends on a test that the
 // processor would have to guess.
 fn gap_of(starts: &[usize], lens: &[usize], m: usize, n: usize, byte: usize) -> Gap
-    requires { ⌜ (m ≤ length (now starts)) × (m ≤ length (now lens)) × Low (now starts) × Low (now lens) × (8 ≤ byte) ⌝ }
-    ensures { λ r. ⌜ Found byte n (rangesOf (now (starts .entry)) (now (lens .entry)) m) r ⌝ }
+    requires { ⌜ (m ≤ length (now starts)) × (m ≤ length (now lens)) × Addable (now starts) × Addable (now lens) × (8 ≤ byte) ⌝ }
+    ensures { λ r. ⌜ Found byte n (partsOf (now (starts .entry)) (now (lens .entry)) m) r ⌝ }
 {
     let mut lo = 8;
     let mut hi = n;
@@ -92,21 +92,21 @@ fn is_out(start: usize, len: usize, lo: usize, hi: usize) -> bool
 fn skip_run(
     offsets: &[u8],
     wideoffsets: bool,
-    counts: &[u8],
-    widecounts: bool,
+    bytecounts: &[u8],
+    widebytecounts: bool,
     big: bool,
     from: usize,
     k: usize,
     lo: usize,
     hi: usize,
 ) -> Stop
-    requires { ⌜ (from ≤ k) × (k < 4294967296) × (width wideoffsets * k ≤ length (now offsets)) × (width widecounts * k ≤ length (now counts)) × (lo ≤ hi) × (hi ≤ 4294967295) ⌝ }
-    ensures { λ r. ⌜ Skipped big (width wideoffsets) (now (offsets .entry)) (width widecounts) (now (counts .entry)) k lo hi from r ⌝ }
+    requires { ⌜ (from ≤ k) × (k < 4294967296) × (width wideoffsets * k ≤ length (now offsets)) × (width widebytecounts * k ≤ length (now bytecounts)) × (lo ≤ hi) × (hi ≤ 4294967295) ⌝ }
+    ensures { λ r. ⌜ Skipped big (width wideoffsets) (now (offsets .entry)) (width widebytecounts) (now (bytecounts .entry)) k lo hi from r ⌝ }
 {
     let mut i = from;
     while i < k {
         let start = order::element(offsets, big, wideoffsets, i);
-        let len = order::element(counts, big, widecounts, i);
+        let len = order::element(bytecounts, big, widebytecounts, i);
         if is_out(start, len, lo, hi) {
             return Stop { at: i, start, len };
         }
@@ -123,27 +123,27 @@ fn skip_run(
 fn skip(
     offsets: &[u8],
     wideoffsets: bool,
-    counts: &[u8],
-    widecounts: bool,
+    bytecounts: &[u8],
+    widebytecounts: bool,
     big: bool,
     from: usize,
     k: usize,
     lo: usize,
     hi: usize,
 ) -> Stop
-    requires { ⌜ (from ≤ k) × (k < 4294967296) × (width wideoffsets * k ≤ length (now offsets)) × (width widecounts * k ≤ length (now counts)) × (lo ≤ hi) × (hi ≤ 4294967295) ⌝ }
-    ensures { λ r. ⌜ Skipped big (width wideoffsets) (now (offsets .entry)) (width widecounts) (now (counts .entry)) k lo hi from r ⌝ }
+    requires { ⌜ (from ≤ k) × (k < 4294967296) × (width wideoffsets * k ≤ length (now offsets)) × (width widebytecounts * k ≤ length (now bytecounts)) × (lo ≤ hi) × (hi ≤ 4294967295) ⌝ }
+    ensures { λ r. ⌜ Skipped big (width wideoffsets) (now (offsets .entry)) (width widebytecounts) (now (bytecounts .entry)) k lo hi from r ⌝ }
 {
     if wideoffsets {
-        if widecounts {
-            return skip_run(offsets, true, counts, true, big, from, k, lo, hi);
+        if widebytecounts {
+            return skip_run(offsets, true, bytecounts, true, big, from, k, lo, hi);
         }
     }
     skip_run(
         offsets,
         wideoffsets,
-        counts,
-        widecounts,
+        bytecounts,
+        widebytecounts,
         big,
         from,
         k,
@@ -152,32 +152,37 @@ fn skip(
     )
 }
 
-// Rule 13 from a place on, where an earlier place breaks rule 14 at `clash`.
+// Rule 13 from a place on, where an earlier place breaks rule 14 at `clash`: the search passes by all that lie in the file, behind its head.
 fn after_clash(
     offsets: &[u8],
     wideoffsets: bool,
-    counts: &[u8],
-    widecounts: bool,
+    bytecounts: &[u8],
+    widebytecounts: bool,
     big: bool,
     from: usize,
     k: usize,
     n: usize,
     clash: u32,
 ) -> Verdict
-    requires { ⌜ (from ≤ k) × (k < 4294967296) × (width wideoffsets * k ≤ length (now offsets)) × (width widecounts * k ≤ length (now counts)) ⌝ }
-    ensures { λ r. ⌜ r ≡ orElse 13 (rule13 n (fromPlace big (width wideoffsets) (now (offsets .entry)) (width widecounts) (now (counts .entry)) from k)) (verdict 14 clash) ⌝ }
+    requires { ⌜ (from ≤ k) × (k < 4294967296) × (width wideoffsets * k ≤ length (now offsets)) × (width widebytecounts * k ≤ length (now bytecounts)) × (8 ≤ n) × (n ≤ 4294967295) ⌝ }
+    ensures { λ r. ⌜ r ≡ orElse 13 (rule13 n (fromPlace big (width wideoffsets) (now (offsets .entry)) (width widebytecounts) (now (bytecounts .entry)) from k)) (verdict 14 clash) ⌝ }
 {
-    let mut j = from;
-    while j < k {
-        let start = order::element(offsets, big, wideoffsets, j);
-        let len = order::element(counts, big, widecounts, j);
-        if is_bad(start, len, n) {
-            return Verdict {
-                number: 13,
-                place: j as u32,
-            };
-        }
-        j += 1;
+    let s = skip(
+        offsets,
+        wideoffsets,
+        bytecounts,
+        widebytecounts,
+        big,
+        from,
+        k,
+        8,
+        n,
+    );
+    if s.at < k {
+        return Verdict {
+            number: 13,
+            place: s.at as u32,
+        };
     }
     Verdict {
         number: 14,
@@ -185,12 +190,12 @@ fn after_clash(
     }
 }
 
-// Rules 13 and 14 over k places: their offsets and byte counts are LONGs (wide) or SHORTs in two runs, and the reading list is m ranges.
+// Rules 13 and 14 over k places: their offsets and byte counts are LONGs (wide) or SHORTs in two runs, and the reading list is m parts.
 pub fn judge_places(
     offsets: &[u8],
     wideoffsets: bool,
-    counts: &[u8],
-    widecounts: bool,
+    bytecounts: &[u8],
+    widebytecounts: bool,
     big: bool,
     k: usize,
     n: usize,
@@ -198,14 +203,24 @@ pub fn judge_places(
     lens: &[usize],
     m: usize,
 ) -> Verdict
-    requires { ⌜ (k < 4294967296) × (width wideoffsets * k ≤ length (now offsets)) × (width widecounts * k ≤ length (now counts)) × (m ≤ length (now starts)) × (m ≤ length (now lens)) × Low (now starts) × Low (now lens) × (8 ≤ n) × (n ≤ 4294967295) ⌝ }
-    ensures { λ r. ⌜ r ≡ placesJudged n (rangesOf (now (starts .entry)) (now (lens .entry)) m) (placesOf big (width wideoffsets) (now (offsets .entry)) (width widecounts) (now (counts .entry)) k) ⌝ }
+    requires { ⌜ (k < 4294967296) × (width wideoffsets * k ≤ length (now offsets)) × (width widebytecounts * k ≤ length (now bytecounts)) × (m ≤ length (now starts)) × (m ≤ length (now lens)) × Addable (now starts) × Addable (now lens) × (8 ≤ n) × (n ≤ 4294967295) ⌝ }
+    ensures { λ r. ⌜ r ≡ placesJudged n (partsOf (now (starts .entry)) (now (lens .entry)) m) (placesOf big (width wideoffsets) (now (offsets .entry)) (width widebytecounts) (now (bytecounts .entry)) k) ⌝ }
 {
     let mut lo = 8;
     let mut hi = 8;
     let mut i = 0;
     while i < k {
-        let s = skip(offsets, wideoffsets, counts, widecounts, big, i, k, lo, hi);
+        let s = skip(
+            offsets,
+            wideoffsets,
+            bytecounts,
+            widebytecounts,
+            big,
+            i,
+            k,
+            lo,
+            hi,
+        );
         if k <= s.at {
             return Verdict {
                 number: 0,
@@ -223,8 +238,8 @@ pub fn judge_places(
             return after_clash(
                 offsets,
                 wideoffsets,
-                counts,
-                widecounts,
+                bytecounts,
+                widebytecounts,
                 big,
                 s.at + 1,
                 k,

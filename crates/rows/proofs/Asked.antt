@@ -19,8 +19,10 @@ use Rattle.tags.specs.Slots.{tagAt, lineAt}
 use Rattle.keys.specs.Pass.{runs}
 use Rattle.keys.proofs.Rows.{row-asks}
 use Rattle.keys.proofs.Turn.{entry-any}
-use Rattle.judge.specs.Examining.{runOf, examinedIn, notExamined, examinedOf}
-use Rattle.judge.proofs.Seen.{Stands, size, fifteen, seventeen, stands}
+use Rattle.image.specs.Imaging.{tagPart}
+use Rattle.judge.specs.Examining.{examinedIn, notExamined, examinedOf}
+use Rattle.paper.proofs.Keeps.{rule15-kept, rule17-kept}
+use Rattle.judge.proofs.Seen.{Stands, size, stands}
 use Rattle.rows.specs.Planning.{planBy, planOf, Asks}
 use Rattle.rows.specs.declared.Plan.{Plan}
 
@@ -67,13 +69,13 @@ module _ (f : List ℕ) (zero : verdictOf f .number ≡ 0) where
       omega (arith, size f zero, s .within, l)
 
   in-view : (i : ℕ) → i < keyCount (runsOf (view f)) → Asked f (planBy (examinedIn (view f))) i
-  unfolding examinedIn runOf startsOf rowAt
+  unfolding examinedIn tagPart startsOf rowAt
   in-view i h =
       let a =
       row-asks (view f .head .big) (Part Tag.keyDirectory) (Part Tag.doubles) (Part Tag.characters) (startsOf (view f)) i
       (low-end Tag.keyDirectory directory) (low-end Tag.doubles doubles) (low-end Tag.characters characters)
-      (subst (λ (r : Runs). rule15 r ≡ kept) (sym runs-are) (fifteen f zero))
-      (subst (λ (r : Runs). rule17 r (keys r) ≡ kept) (sym runs-are) (seventeen f zero))
+      (subst (λ (r : Runs). rule15 r ≡ kept) (sym runs-are) (rule15-kept f zero))
+      (subst (λ (r : Runs). rule17 r (keys r) ≡ kept) (sym runs-are) (rule17-kept f zero))
       (subst (λ (r : Runs). i < keyCount r) (sym runs-are) h) in
       record {
         within = directory .within;

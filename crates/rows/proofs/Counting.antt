@@ -20,8 +20,7 @@ use Rattle.paper.specs.declared.Verdict.{Verdict}
 use Rattle.paper.proofs.Called.{answer-good, answer-bad, judged-verdict}
 use Rattle.judge.specs.Examining.{examinedIn, examinedOf}
 use Rattle.judge.specs.declared.Examined.{Examined}
-use Rattle.judge.proofs.Laid.{judged-is}
-use Rattle.judge.proofs.Seen.{accepted, found}
+use Rattle.judge.proofs.Seen.{judged-is, accepted, found}
 use Rattle.rows.specs.Planning.{planOf, Fits, noRow}
 
 abbrev told : Verdict → ℕ → Counted

@@ -3,31 +3,32 @@
 use Prim.Native.Nat.{ℕ, _*_, _≤_, _<_}
 use mathlib.Core.Path.{_≡_, refl, sym, ap, _∙_, subst}
 use mathlib.Core.Bool.{Bool, true, false, cond, not, _||_, or-true, Bool·not-not}
-use mathlib.Core.List.{List, [], _∷_, _++_}
+use mathlib.Core.List.{List}
 use native.Mathlib.Omega.{arith}
 use lib.Dec.{eqb, lit<}
 use lib.ListN.{length, getD}
 use borrow.Author.Tests.{eqb-true, eq-eqb}
 use Rattle.order.specs.Width.{width}
 use Rattle.paper.specs.Bytes.{run}
-use Rattle.paper.specs.Outcome.{_▸_, first}
+use Rattle.paper.specs.Outcome.{first}
 use Rattle.paper.specs.declared.Outcome.the-variants.{Kept as kept}
 use Rattle.paper.specs.Tests.{all, some}
 use Rattle.paper.specs.Layout.{sizeOf}
 use Rattle.paper.specs.Tag
 use Rattle.paper.specs.Tags.{table, Held, has, countOf, valueOf, tiled, offsetsTag, byteCountsTag, pieceCount, rule27, rule9, rule10, rule11, rule12}
-use Rattle.paper.specs.Pieces.{rule13, rule14}
-use Rattle.paper.specs.Judge.{View, viewAt, entriesIn, dirRun, countIn, piecesOf, fullOf}
-use Rattle.paper.specs.Judge as judge
+use Rattle.paper.specs.Judge.{viewAt, entriesIn, dirRun, countIn}
 use Rattle.paper.proofs.Laws.{run-length-in, or-same}
 use Rattle.paper.proofs.First.{kept-first}
 use Rattle.paper.proofs.Kept.{among}
 use Rattle.tags.specs.Slots.{lineAt, tagAt, offsetsSlot, byteCountsSlot}
-use Rattle.tags.specs.Numbers.{numbersOf, bitsOf, countOfPieces}
-use Rattle.tags.specs.Tagging.{entriesAt, heldAt, viewOf, tableRules, taggedBy, taggedOf, Ready}
+use Rattle.tags.specs.Numbers.{numbersOf, bitsOf}
+use Rattle.paper.specs.Judge.{tableRules}
+use Rattle.tags.specs.Tagging.{entriesAt, heldAt, viewOf, taggedBy, taggedOf, Ready}
+use Rattle.tags.specs.declared.Tagged.{Tagged}
 use Rattle.tags.proofs.Slots.{Slot, slot}
-use Rattle.tags.proofs.Rules.{Lined, LinedAt, lined, needed-lined, no-strip, no-tile, eleven-is, counted-is, twelve-is}
-use Rattle.tags.proofs.Answers.{kind-is, typ-is, count-is, Allowed, eleven-gives, Agreed, twelve-gives}
+use Rattle.tags.proofs.Rules.{Lined, lined, needed-lined, no-strip, no-tile, eleven-is, counted-is, twelve-is}
+use Rattle.tags.proofs.Fetched.{kind-is, typ-is, count-is}
+use Rattle.tags.proofs.Kept.{Allowed, eleven-gives, Agreed, twelve-gives}
 
 -- ---- the view and the rules, as the paper has them
 
@@ -36,11 +37,6 @@ pub view-is : (f : List ℕ) (big : Bool) (at c : ℕ) → c ≡ countIn f (reco
     → viewOf f big at c ≡ viewAt table f (record { size = length f; big = big; at = at })
 unfolding viewOf heldAt entriesAt viewAt entriesIn dirRun
 view-is f big at c e = rw e
-
--- rules 27 and 9 to 12 come before 13 and 14
-pub rules-are : (v : View) → judge.tagRules v ≡ tableRules v ++ (13 ▸ rule13 (v .head .size) (piecesOf v) ∷ 14 ▸ rule14 (fullOf v) (piecesOf v) ∷ [])
-unfolding judge.tagRules tableRules
-rules-are v = refl
 
 -- ---- the columns of a tag
 
@@ -67,7 +63,7 @@ width-of typ h = go (eqb typ 3) refl (eqb typ 4) refl h
     go false p true q g = let e : typ ≡ 4 = eqb-true typ 4 q in rw e
     go false p false q g = cc
 
-module _ (f : List ℕ) (hs : List Held) (typs counts starts lens : List ℕ) (t k : ℕ) (s : Slot f hs typs counts starts lens t k) where
+module _ {f : List ℕ} {hs : List Held} {typs counts starts lens : List ℕ} {t k : ℕ} (s : Slot f hs typs counts starts lens t k) where
   piece-column : {pieces : ℕ} → eqb (getD typs k 0) 3 || eqb (getD typs k 0) 4 ≡ true → countOf t hs ≡ pieces → PieceColumn f hs typs counts starts lens pieces t k
   piece-column q e =
       let w = width-of (getD typs k 0) q in
@@ -88,7 +84,7 @@ module _ (f : List ℕ) (hs : List Held) (typs counts starts lens : List ℕ) (t
       go true p = rw p (s .none (eqb-true (getD starts k 0) 0 p))
       go false p =
           let l : Lined hs t a a m m = g (s .present ∙ ap not p) in
-          rw p (s .size ∙ (λ i. sizeOf (typ-is f hs typs counts starts lens t k s l i) * count-is f hs typs counts starts lens t k s l i) ∙ e)
+          rw p (s .size ∙ (λ i. sizeOf (typ-is s l i) * count-is s l i) ∙ e)
 
   fixed-column : {a m bytes : ℕ} → (has t hs ≡ true → Lined hs t a a m m) → sizeOf a * m ≡ bytes
       → FixedColumn f hs typs counts starts lens bytes t k
@@ -113,10 +109,10 @@ pub record Accepted (f : List ℕ) (big : Bool) (at c : ℕ) (typs counts starts
   pub tiled-is : taggedOf (viewOf f big at c) .tiled ≡ tiled (heldAt f big at c)
   pub offsets : PieceColumn f (heldAt f big at c) typs counts starts lens
       (pieceCount big (heldAt f big at c)) (offsetsTag (heldAt f big at c)) (offsetsSlot (tiled (heldAt f big at c)))
-  pub sizes : PieceColumn f (heldAt f big at c) typs counts starts lens
+  pub byte-counts : PieceColumn f (heldAt f big at c) typs counts starts lens
       (pieceCount big (heldAt f big at c)) (byteCountsTag (heldAt f big at c)) (byteCountsSlot (tiled (heldAt f big at c)))
   pub no-offsets : getD lens (offsetsSlot (not (tiled (heldAt f big at c)))) 0 ≡ 0
-  pub no-sizes : getD lens (byteCountsSlot (not (tiled (heldAt f big at c)))) 0 ≡ 0
+  pub no-byte-counts : getD lens (byteCountsSlot (not (tiled (heldAt f big at c)))) 0 ≡ 0
   pub scale : FixedColumn f (heldAt f big at c) typs counts starts lens 24 33550 14
   pub tiepoint : FixedColumn f (heldAt f big at c) typs counts starts lens 48 33922 15
   pub matrix : FixedColumn f (heldAt f big at c) typs counts starts lens 128 34264 16
@@ -127,105 +123,99 @@ pub record Accepted (f : List ℕ) (big : Bool) (at c : ℕ) (typs counts starts
 
 module _ (f : List ℕ) (big : Bool) (at c : ℕ) (typs counts starts lens : List ℕ) (r : Ready f big at c typs counts starts lens)
     (zero : taggedOf (viewOf f big at c) .verdict .number ≡ 0) where
+  abbrev Hs : List Held
+  Hs = heldAt f big at c
+
+  abbrev Told : Tagged
+  Told = taggedOf (viewOf f big at c)
+
   rules-zero : first (tableRules (viewOf f big at c)) .number ≡ 0
   unfolding taggedOf taggedBy
   rules-zero = zero
 
-  mixed-kept : rule27 (heldAt f big at c) ≡ kept
+  mixed-kept : rule27 Hs ≡ kept
   unfolding tableRules viewOf all
   mixed-kept = kept-first (tableRules (viewOf f big at c)) refl rules-zero 0
 
-  nine-kept : rule9 table (heldAt f big at c) ≡ kept
+  nine-kept : rule9 table Hs ≡ kept
   unfolding tableRules viewOf all
   nine-kept = kept-first (tableRules (viewOf f big at c)) refl rules-zero 1
 
-  ten-kept : rule10 table (heldAt f big at c) ≡ kept
+  ten-kept : rule10 table Hs ≡ kept
   unfolding tableRules viewOf all
   ten-kept = kept-first (tableRules (viewOf f big at c)) refl rules-zero 2
 
-  eleven-kept : rule11 table big (heldAt f big at c) ≡ kept
+  eleven-kept : rule11 table big Hs ≡ kept
   unfolding tableRules viewOf all
   eleven-kept = kept-first (tableRules (viewOf f big at c)) refl rules-zero 3
 
-  twelve-kept : rule12 big (heldAt f big at c) ≡ kept
+  twelve-kept : rule12 big Hs ≡ kept
   unfolding tableRules viewOf all
   twelve-kept = kept-first (tableRules (viewOf f big at c)) refl rules-zero 4
 
-  sides-are : (taggedOf (viewOf f big at c) .width ≡ valueOf big 256 (heldAt f big at c)) × (taggedOf (viewOf f big at c) .length ≡ valueOf big 257 (heldAt f big at c))
+  sides-are : (Told .width ≡ valueOf big 256 Hs) × (Told .length ≡ valueOf big 257 Hs)
   unfolding taggedOf taggedBy viewOf
   sides-are = let e = eq-eqb _ 0 rules-zero in (rw e, rw e)
 
-  tiles-are : taggedOf (viewOf f big at c) .tiled ≡ tiled (heldAt f big at c)
+  tiles-are : Told .tiled ≡ tiled Hs
   unfolding taggedOf taggedBy viewOf
   tiles-are = let e = eq-eqb _ 0 rules-zero in rw e
 
-  allowed : Allowed (numbersOf big (heldAt f big at c))
-  allowed = eleven-gives (numbersOf big (heldAt f big at c)) (bitsOf big (heldAt f big at c) .allowed) (eleven-is big (heldAt f big at c) mixed-kept nine-kept ten-kept ∙ eleven-kept)
+  allowed : Allowed (numbersOf big Hs)
+  allowed = eleven-gives (numbersOf big Hs) (bitsOf big Hs .allowed) (eleven-is big Hs mixed-kept nine-kept ten-kept ∙ eleven-kept)
 
-  agreed : Agreed (numbersOf big (heldAt f big at c)) (tiled (heldAt f big at c)) (countOf (offsetsTag (heldAt f big at c)) (heldAt f big at c)) (countOf (byteCountsTag (heldAt f big at c)) (heldAt f big at c))
-  agreed =
-      twelve-gives (numbersOf big (heldAt f big at c)) (bitsOf big (heldAt f big at c)) (tiled (heldAt f big at c)) _ _ _ (twelve-is big (heldAt f big at c) ∙ twelve-kept)
+  agreed : Agreed (numbersOf big Hs) (tiled Hs) (countOf (offsetsTag Hs) Hs) (countOf (byteCountsTag Hs) Hs)
+  agreed = twelve-gives (numbersOf big Hs) (bitsOf big Hs) (tiled Hs) _ _ _ (twelve-is big Hs ∙ twelve-kept)
 
-  counted : countOfPieces (numbersOf big (heldAt f big at c)) (tiled (heldAt f big at c)) ≡ pieceCount big (heldAt f big at c)
-  counted = counted-is big (heldAt f big at c)
-
-  here : (k : ℕ) → k < 21 → Slot f (heldAt f big at c) typs counts starts lens (tagAt k) k
+  here : (k : ℕ) → k < 21 → Slot f Hs typs counts starts lens (tagAt k) k
   here = slot f big at c typs counts starts lens r
 
-  -- a tag of pieces that is present: SHORT or LONG, or LONG alone
-  kind-of : (k : ℕ) (h : k < 21) → LinedAt (heldAt f big at c) k → eqb (getD typs k 0) (lineAt k .type) || eqb (getD typs k 0) (lineAt k .other) ≡ true
-  kind-of k h l = kind-is f (heldAt f big at c) typs counts starts lens (tagAt k) k (here k h) l
+  -- a needed tag has a type of its line
+  kind-of : (k : ℕ) → k < 21 → lineAt k .needed (tiled Hs) ≡ true → eqb (getD typs k 0) (lineAt k .type) || eqb (getD typs k 0) (lineAt k .other) ≡ true
+  kind-of k h n = kind-is (here k h) (needed-lined Hs nine-kept ten-kept k h n)
 
-  column-of : (pieces t k : ℕ) → Slot f (heldAt f big at c) typs counts starts lens t k → countOf t (heldAt f big at c) ≡ pieces
-      → eqb (getD typs k 0) 3 || eqb (getD typs k 0) 4 ≡ true → PieceColumn f (heldAt f big at c) typs counts starts lens pieces t k
-  column-of pieces t k s e q = piece-column f (heldAt f big at c) typs counts starts lens t k s q e
+  abbrev Column : ℕ → ℕ → Type 0
+  Column t k = PieceColumn f Hs typs counts starts lens (pieceCount big Hs) t k
 
-  offsets-column : PieceColumn f (heldAt f big at c) typs counts starts lens
-      (pieceCount big (heldAt f big at c)) (offsetsTag (heldAt f big at c)) (offsetsSlot (tiled (heldAt f big at c)))
+  offsets-column : Column (offsetsTag Hs) (offsetsSlot (tiled Hs))
   unfolding lineAt tagAt table offsetsSlot
-  offsets-column = go (tiled (heldAt f big at c)) refl (agreed .offsets-are ∙ counted)
+  offsets-column = go (tiled Hs) refl (agreed .offsets-are ∙ counted-is big Hs)
     where
-      go : (b : Bool) → tiled (heldAt f big at c) ≡ b → countOf (cond b 324 273) (heldAt f big at c) ≡ pieceCount big (heldAt f big at c)
-          → PieceColumn f (heldAt f big at c) typs counts starts lens (pieceCount big (heldAt f big at c)) (cond b 324 273) (cond b 12 5)
-      go true e q =
-          let l = needed-lined (heldAt f big at c) nine-kept ten-kept 12 (lit< tt) e in
-          column-of _ 324 12 (here 12 (lit< tt)) q (rw (or-same (eqb (getD typs 12 0) 4) (kind-of 12 (lit< tt) l), or-true (eqb (getD typs 12 0) 3)))
-      go false e q = column-of _ 273 5 (here 5 (lit< tt)) q (kind-of 5 (lit< tt) (needed-lined (heldAt f big at c) nine-kept ten-kept 5 (lit< tt) (ap not e)))
+      go : (b : Bool) → tiled Hs ≡ b → countOf (cond b 324 273) Hs ≡ pieceCount big Hs → Column (cond b 324 273) (cond b 12 5)
+      go true e q = piece-column (here 12 (lit< tt)) (rw (or-same (eqb (getD typs 12 0) 4) (kind-of 12 (lit< tt) e), or-true (eqb (getD typs 12 0) 3))) q
+      go false e q = piece-column (here 5 (lit< tt)) (kind-of 5 (lit< tt) (ap not e)) q
 
-  sizes-column : PieceColumn f (heldAt f big at c) typs counts starts lens
-      (pieceCount big (heldAt f big at c)) (byteCountsTag (heldAt f big at c)) (byteCountsSlot (tiled (heldAt f big at c)))
+  byte-counts-column : Column (byteCountsTag Hs) (byteCountsSlot (tiled Hs))
   unfolding lineAt tagAt table byteCountsSlot
-  sizes-column = go (tiled (heldAt f big at c)) refl (agreed .sizes-are ∙ counted)
+  byte-counts-column = go (tiled Hs) refl (agreed .byte-counts-are ∙ counted-is big Hs)
     where
-      go : (b : Bool) → tiled (heldAt f big at c) ≡ b → countOf (cond b 325 279) (heldAt f big at c) ≡ pieceCount big (heldAt f big at c)
-          → PieceColumn f (heldAt f big at c) typs counts starts lens (pieceCount big (heldAt f big at c)) (cond b 325 279) (cond b 13 8)
-      go true e q = column-of _ 325 13 (here 13 (lit< tt)) q (kind-of 13 (lit< tt) (needed-lined (heldAt f big at c) nine-kept ten-kept 13 (lit< tt) e))
-      go false e q = column-of _ 279 8 (here 8 (lit< tt)) q (kind-of 8 (lit< tt) (needed-lined (heldAt f big at c) nine-kept ten-kept 8 (lit< tt) (ap not e)))
+      go : (b : Bool) → tiled Hs ≡ b → countOf (cond b 325 279) Hs ≡ pieceCount big Hs → Column (cond b 325 279) (cond b 13 8)
+      go true e q = piece-column (here 13 (lit< tt)) (kind-of 13 (lit< tt) e) q
+      go false e q = piece-column (here 8 (lit< tt)) (kind-of 8 (lit< tt) (ap not e)) q
 
   -- a tag of the other family is absent
-  none-at : (k : ℕ) → k < 21 → has (tagAt k) (heldAt f big at c) ≡ false → getD lens k 0 ≡ 0
+  none-at : (k : ℕ) → k < 21 → has (tagAt k) Hs ≡ false → getD lens k 0 ≡ 0
   none-at k h n = here k h .none (eqb-true _ 0 (sym (Bool·not-not _) ∙ ap not (sym (here k h .present) ∙ n)))
 
-  no-offsets-column : getD lens (offsetsSlot (not (tiled (heldAt f big at c)))) 0 ≡ 0
+  no-offsets-column : getD lens (offsetsSlot (not (tiled Hs))) 0 ≡ 0
   unfolding lineAt tagAt table offsetsSlot among some
-  no-offsets-column = go (tiled (heldAt f big at c)) refl
+  no-offsets-column = go (tiled Hs) refl
     where
-      go : (b : Bool) → tiled (heldAt f big at c) ≡ b → getD lens (cond (not b) 12 5) 0 ≡ 0
-      go true e = none-at 5 (lit< tt) (no-strip (heldAt f big at c) mixed-kept e 273 refl)
-      go false e = none-at 12 (lit< tt) (no-tile (heldAt f big at c) mixed-kept e 324 refl)
+      go : (b : Bool) → tiled Hs ≡ b → getD lens (cond (not b) 12 5) 0 ≡ 0
+      go true e = none-at 5 (lit< tt) (no-strip Hs mixed-kept e 273 refl)
+      go false e = none-at 12 (lit< tt) (no-tile Hs mixed-kept e 324 refl)
 
-  no-sizes-column : getD lens (byteCountsSlot (not (tiled (heldAt f big at c)))) 0 ≡ 0
+  no-byte-counts-column : getD lens (byteCountsSlot (not (tiled Hs))) 0 ≡ 0
   unfolding lineAt tagAt table byteCountsSlot among some
-  no-sizes-column = go (tiled (heldAt f big at c)) refl
+  no-byte-counts-column = go (tiled Hs) refl
     where
-      go : (b : Bool) → tiled (heldAt f big at c) ≡ b → getD lens (cond (not b) 13 8) 0 ≡ 0
-      go true e = none-at 8 (lit< tt) (no-strip (heldAt f big at c) mixed-kept e 279 refl)
-      go false e = none-at 13 (lit< tt) (no-tile (heldAt f big at c) mixed-kept e 325 refl)
+      go : (b : Bool) → tiled Hs ≡ b → getD lens (cond (not b) 13 8) 0 ≡ 0
+      go true e = none-at 8 (lit< tt) (no-strip Hs mixed-kept e 279 refl)
+      go false e = none-at 13 (lit< tt) (no-tile Hs mixed-kept e 325 refl)
 
   pub accepted : Accepted f big at c typs counts starts lens
   unfolding numbersOf lineAt tagAt table sizeOf
   accepted =
-      let hs = heldAt f big at c in
       let a = allowed in
       record {
         twenty-seven = mixed-kept;
@@ -241,12 +231,12 @@ module _ (f : List ℕ) (big : Bool) (at c : ℕ) (typs counts starts lens : Lis
         length-high = a .length-high;
         tiled-is = tiles-are;
         offsets = offsets-column;
-        sizes = sizes-column;
+        byte-counts = byte-counts-column;
         no-offsets = no-offsets-column;
-        no-sizes = no-sizes-column;
-        scale = fixed-column f hs typs counts starts lens 33550 14 (here 14 (lit< tt)) (lined hs ten-kept 14 (lit< tt)) refl;
-        tiepoint = fixed-column f hs typs counts starts lens 33922 15 (here 15 (lit< tt)) (lined hs ten-kept 15 (lit< tt)) refl;
-        matrix = fixed-column f hs typs counts starts lens 34264 16 (here 16 (lit< tt)) (lined hs ten-kept 16 (lit< tt)) refl;
+        no-byte-counts = no-byte-counts-column;
+        scale = fixed-column (here 14 (lit< tt)) (lined Hs ten-kept 14 (lit< tt)) refl;
+        tiepoint = fixed-column (here 15 (lit< tt)) (lined Hs ten-kept 15 (lit< tt)) refl;
+        matrix = fixed-column (here 16 (lit< tt)) (lined Hs ten-kept 16 (lit< tt)) refl;
         directory = here 17 (lit< tt);
         doubles = here 18 (lit< tt);
         characters = here 19 (lit< tt);

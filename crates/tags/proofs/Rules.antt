@@ -13,7 +13,8 @@ use Rattle.paper.specs.Bytes.{build, elems}
 use Rattle.paper.specs.Outcome.{firstBad}
 use Rattle.paper.specs.declared.Outcome.the-variants.{Kept as kept}
 use Rattle.paper.specs.Tests.{all, some, allows}
-use Rattle.paper.specs.Tags.{Line, any, sixteens, table, Held, find, has, countOf, valueOf, valuesOf, stripTags, tileTags, hasSome, tiled, rule27, offsetsTag, byteCountsTag, pieceCount, lacks, rule9, fitsLine, rule10, disallowed, rule11, rule12}
+use Rattle.paper.specs.Tags.{Line, any, sixteens, table, Held, find, has, countOf, valueOf, valuesOf, stripTags, tileTags, hasSome, tiled}
+use Rattle.paper.specs.Tags.{offsetsTag, byteCountsTag, pieceCount, lacks, fitsLine, disallowed, rule27, rule9, rule10, rule11, rule12}
 use Rattle.paper.proofs.Laws.{and-eq, breaks-kept, kept-all}
 use Rattle.paper.proofs.Kept.{among, has-none}
 use Rattle.paper.proofs.Bounds.{noLine, fits-line}

@@ -8,7 +8,7 @@ use native.Mathlib.Nat.{not-suc-le-zero, le-of-suc-le-suc, zero-mul}
 use native.Mathlib.Omega.{arith}
 use lib.Dec.{eqb, ltb, lit<}
 use lib.ListN.{length, getD, List·getD-append, List·getD-map}
-use borrow.Author.Tests.{ne-eqb, eq-eqb, ltb-true, ltb-false, not-true, not-false}
+use borrow.Author.Tests.{ne-eqb, eq-eqb, ltb-true, ltb-false, not-true}
 use Rattle.paper.specs.Bytes.{run, num}
 use Rattle.paper.specs.Outcome.{firstBad}
 use Rattle.paper.specs.Tests.{all, some}
@@ -17,10 +17,10 @@ use Rattle.paper.specs.Tags.{Line, table, inTable, Held, find, absent, has, byt
 use Rattle.paper.specs.declared.Entry.{Entry}
 use Rattle.paper.specs.declared.Outcome.{Outcome}
 use Rattle.paper.specs.declared.Outcome.the-variants.{Kept as kept, Broken as broken}
-use Rattle.paper.proofs.Laws.{all-at, first-same, kept-all, or-false}
+use Rattle.paper.proofs.Laws.{all-at, first-same}
 use Rattle.paper.proofs.Loops.{findEntry, find-entry}
 use Rattle.paper.proofs.Bounds.{noLine, entry-inside}
-use Rattle.layout.specs.Columns.{tags, fieldOf, column, typsOf, countsOf, startsOf, lensOf}
+use Rattle.layout.specs.Columns.{tags, fieldOf, column, typColumn, countColumn, startColumn, lenColumn}
 use Rattle.layout.specs.Finding.{placeIn}
 use Rattle.layout.proofs.Sizes.{len-of}
 use Rattle.layout.proofs.Finding.{Found, found-place}
@@ -60,6 +60,10 @@ column-front : (field : Entry → ℕ) → field (absent .entry) ≡ 0 → (es :
     → getD (column field es ++ ys) k 0 ≡ field (findEntry (tagAt k) es)
 column-front field z es ys k h =
     List·getD-append (column field es) ys 0 k (subst (λ (m : ℕ). k < m) (sym (column-length field es)) h) ∙ column-at field z es k h
+
+-- a number of a column, of one that is the same
+at-of : {xs ys : List ℕ} {n : ℕ} (k : ℕ) → xs ≡ ys → getD ys k 0 ≡ n → n ≡ getD xs k 0
+at-of k e h = sym (ap (λ (l : List ℕ). getD l k 0) e ∙ h)
 
 -- ---- an entry that is found
 
@@ -106,106 +110,7 @@ module _ (n at c : ℕ) (big : Bool) (dir : List ℕ) (low : 8 ≤ at) (fits : a
                 subst (λ (x : Entry). x .start + x .len ≤ n) (h .found) (place-within n at c big dir low fits seven (suc p) (h .within));
           }
 
--- ---- a tag of the table
-
-tags-some : all (λ l. not (eqb 0 (l .tag))) table ≡ true
-unfolding all table
-tags-some = refl
-
--- tag t, whose line is k, with its numbers in the columns
-pub record Slot (f : List ℕ) (hs : List Held) (typs counts starts lens : List ℕ) (t k : ℕ) : Type 0 where
-  pub typ : find t hs .entry .typ ≡ getD typs k 0
-  pub count : find t hs .entry .count ≡ getD counts k 0
-  pub start : find t hs .entry .start ≡ getD starts k 0
-  pub len : find t hs .entry .len ≡ getD lens k 0
-  pub bytes : bytesOf t hs ≡ run f (getD starts k 0) (getD lens k 0)
-  pub present : has t hs ≡ not (eqb (getD starts k 0) 0)
-  pub none : getD starts k 0 ≡ 0 → getD lens k 0 ≡ 0
-  pub size : getD lens k 0 ≡ sizeOf (getD typs k 0) * getD counts k 0
-  pub within : getD starts k 0 + getD lens k 0 ≤ length f
-
-module _ (f : List ℕ) (big : Bool) (at c : ℕ) (typs counts starts lens : List ℕ) (r : Ready f big at c typs counts starts lens) where
-  -- the entry of tag k
-  abbrev Of : ℕ → Entry
-  Of k = findEntry (tagAt k) (entriesAt f big at c)
-
-  held-is : (k : ℕ) → find (tagAt k) (heldAt f big at c) .entry ≡ Of k
-  unfolding heldAt
-  held-is k = find-entry table f (tagAt k) (entriesAt f big at c)
-
-  typ-is : (k : ℕ) → k < 21 → Of k .typ ≡ getD typs k 0
-  unfolding typsOf
-  typ-is k h = sym (ap (λ (l : List ℕ). getD l k 0) (r .typs-are) ∙ column-at (λ (e : Entry). e .typ) refl (entriesAt f big at c) k h)
-
-  count-is : (k : ℕ) → k < 21 → Of k .count ≡ getD counts k 0
-  unfolding countsOf
-  count-is k h = sym (ap (λ (l : List ℕ). getD l k 0) (r .counts-are) ∙ column-at (λ (e : Entry). e .count) refl (entriesAt f big at c) k h)
-
-  start-is : (k : ℕ) → k < 21 → Of k .start ≡ getD starts k 0
-  unfolding startsOf
-  start-is k h = sym (ap (λ (l : List ℕ). getD l k 0) (r .starts-are) ∙ column-front (λ (e : Entry). e .start) refl (entriesAt f big at c) _ k h)
-
-  len-is : (k : ℕ) → k < 21 → Of k .len ≡ getD lens k 0
-  unfolding lensOf
-  len-is k h = sym (ap (λ (l : List ℕ). getD l k 0) (r .lens-are) ∙ column-front (λ (e : Entry). e .len) refl (entriesAt f big at c) _ k h)
-
-  tag-some : (k : ℕ) → k < 21 → eqb 0 (tagAt k) ≡ false
-  unfolding tagAt lineAt table
-  tag-some k h = not-true _ (all-at (λ (l : Line). not (eqb 0 (l .tag))) table noLine tags-some k h)
-
-  tag-listed : (k : ℕ) → k < 21 → inTable table (tagAt k) ≡ true
-  unfolding tagAt lineAt tags
-  tag-listed k h = subst (λ (t : ℕ). inTable table t ≡ true) (List·getD-map (λ (l : Line). l .tag) table k noLine) (tag-in k h)
-
-  whole-at : (k : ℕ) → k < 21 → Whole (length f) (tagAt k) (Of k)
-  unfolding entriesAt
-  whole-at k h = whole (length f) at c big (run f at (dirLen c)) (r .low) (r .whole) (r .seven) (tagAt k) (tag-some k h)
-
-  bytes-are : (k : ℕ) → k < 21 → bytesOf (tagAt k) (heldAt f big at c) ≡ run f (Of k .start) (Of k .len)
-  unfolding heldAt entriesAt
-  bytes-are k h = found-bytes f (tagAt k) big at c (run f at (dirLen c)) (tag-listed k h)
-
-  pub slot : (k : ℕ) → k < 21 → Slot f (heldAt f big at c) typs counts starts lens (tagAt k) k
-  unfolding has
-  slot k h =
-      let s = start-is k h in
-      let l = len-is k h in
-      let w = whole-at k h in
-      record {
-        typ = ap (λ (e : Entry). e .typ) (held-is k) ∙ typ-is k h;
-        count = ap (λ (e : Entry). e .count) (held-is k) ∙ count-is k h;
-        start = ap (λ (e : Entry). e .start) (held-is k) ∙ s;
-        len = ap (λ (e : Entry). e .len) (held-is k) ∙ l;
-        bytes = bytes-are k h ∙ ap₂ (run f) s l;
-        present = ap (λ (e : Entry). eqb (e .tag) (tagAt k)) (held-is k) ∙ w .has ∙ ap (λ (x : ℕ). not (eqb x 0)) s;
-        none = λ z. sym l ∙ w .none (s ∙ z);
-        size = sym l ∙ w .size ∙ ap₂ (λ (x y : ℕ). sizeOf x * y) (typ-is k h) (count-is k h);
-        within = subst (λ (x : ℕ). x + getD lens k 0 ≤ length f) s (subst (λ (y : ℕ). Of k .start + y ≤ length f) l (w .within));
-      }
-
--- ---- rules 27, 9 and 10
-
--- where no tag of some lines is present, each starts at 0 and so breaks nothing
-none-at : (ks starts : List ℕ) → someAt ks starts ≡ false → (i : ℕ) → i < length ks → eqb (getD starts (getD ks i 0) 0) 0 ≡ true
-unfolding someAt some
-none-at [] starts h i l = absurd (not-suc-le-zero l)
-none-at (k ∷ ks) starts h zero l = not-false _ (or-false (not (eqb (getD starts k 0) 0)) _ h .0)
-none-at (k ∷ ks) starts h (suc i) l = none-at ks starts (or-false (not (eqb (getD starts k 0) 0)) _ h .1) i (le-of-suc-le-suc l)
-
-pub absent-fits : (ks typs counts starts : List ℕ) → someAt ks starts ≡ false → (i : ℕ) → i < length ks → misfitAt typs counts starts (getD ks i 0) ≡ false
-unfolding misfitAt misfit
-absent-fits ks typs counts starts h i l = rw (none-at ks starts h i l)
-
--- where rule 9 is kept, a needed tag starts elsewhere
-pub needed-at : (tiled : Bool) (starts : List ℕ) → nineFrom 0 tiled starts ≡ kept → (i : ℕ) → i < 21 → lineAt (getD slots i 0) .needed tiled ≡ true
-    → eqb (getD starts (getD slots i 0) 0) 0 ≡ false
-unfolding nineFrom slots lacksAt
-needed-at tiled starts h i l n =
-    let m : lacksAt tiled starts (getD slots i 0) ≡ false = kept-all (lacksAt tiled starts) tagAt slots 0 h i l in
-    there (getD slots i 0) n m
-  where
-    there : (k : ℕ) → lineAt k .needed tiled ≡ true → lacksAt tiled starts k ≡ false → eqb (getD starts k 0) 0 ≡ false
-    there k n m = rw n at m
+-- ---- rules over the lines
 
 first-map : {A B : Type 0} (bad : B → Bool) (place : B → ℕ) (g : A → B) (xs : List A)
     → firstBad bad place (map g xs) ≡ firstBad (λ (x : A). bad (g x)) (λ (x : A). place (g x)) xs
@@ -231,34 +136,118 @@ first-slots bad test h =
     ∙ first-map bad (λ (l : Line). l .tag) lineAt slots
     ∙ first-same (λ (k : ℕ). bad (lineAt k)) test tagAt slots 0 (λ i l. h (getD slots i 0) (ltb-true _ 21 (all-at (λ (k : ℕ). ltb k 21) slots 0 slots-low i l))))
 
+-- ---- a tag of the table
+
+tags-some : all (λ l. not (eqb 0 (l .tag))) table ≡ true
+unfolding all table
+tags-some = refl
+
+-- tag t, whose line is k, with its numbers in the columns
+pub record Slot (f : List ℕ) (hs : List Held) (typs counts starts lens : List ℕ) (t k : ℕ) : Type 0 where
+  pub typ : find t hs .entry .typ ≡ getD typs k 0
+  pub count : find t hs .entry .count ≡ getD counts k 0
+  pub start : find t hs .entry .start ≡ getD starts k 0
+  pub len : find t hs .entry .len ≡ getD lens k 0
+  pub bytes : bytesOf t hs ≡ run f (getD starts k 0) (getD lens k 0)
+  pub present : has t hs ≡ not (eqb (getD starts k 0) 0)
+  pub none : getD starts k 0 ≡ 0 → getD lens k 0 ≡ 0
+  pub size : getD lens k 0 ≡ sizeOf (getD typs k 0) * getD counts k 0
+  pub within : getD starts k 0 + getD lens k 0 ≤ length f
+
 module _ (f : List ℕ) (big : Bool) (at c : ℕ) (typs counts starts lens : List ℕ) (r : Ready f big at c typs counts starts lens) where
-  present-at : (k : ℕ) → k < 21 → has (tagAt k) (heldAt f big at c) ≡ not (eqb (getD starts k 0) 0)
-  present-at k h = slot f big at c typs counts starts lens r k h .present
+  abbrev Es : List Entry
+  Es = entriesAt f big at c
+
+  abbrev Hs : List Held
+  Hs = heldAt f big at c
+
+  -- the entry of tag k
+  abbrev Of : ℕ → Entry
+  Of k = findEntry (tagAt k) Es
+
+  held-is : (k : ℕ) → find (tagAt k) Hs .entry ≡ Of k
+  unfolding heldAt
+  held-is k = find-entry table f (tagAt k) Es
+
+  typ-is : (k : ℕ) → k < 21 → Of k .typ ≡ getD typs k 0
+  unfolding typColumn
+  typ-is k h = at-of k (r .typs-are) (column-at (λ (e : Entry). e .typ) refl Es k h)
+
+  count-is : (k : ℕ) → k < 21 → Of k .count ≡ getD counts k 0
+  unfolding countColumn
+  count-is k h = at-of k (r .counts-are) (column-at (λ (e : Entry). e .count) refl Es k h)
+
+  start-is : (k : ℕ) → k < 21 → Of k .start ≡ getD starts k 0
+  unfolding startColumn
+  start-is k h = at-of k (r .starts-are) (column-front (λ (e : Entry). e .start) refl Es _ k h)
+
+  len-is : (k : ℕ) → k < 21 → Of k .len ≡ getD lens k 0
+  unfolding lenColumn
+  len-is k h = at-of k (r .lens-are) (column-front (λ (e : Entry). e .len) refl Es _ k h)
+
+  tag-some : (k : ℕ) → k < 21 → eqb 0 (tagAt k) ≡ false
+  unfolding tagAt lineAt table
+  tag-some k h = not-true _ (all-at (λ (l : Line). not (eqb 0 (l .tag))) table noLine tags-some k h)
+
+  tag-listed : (k : ℕ) → k < 21 → inTable table (tagAt k) ≡ true
+  unfolding tagAt lineAt tags
+  tag-listed k h = subst (λ (t : ℕ). inTable table t ≡ true) (List·getD-map (λ (l : Line). l .tag) table k noLine) (tag-in k h)
+
+  whole-at : (k : ℕ) → k < 21 → Whole (length f) (tagAt k) (Of k)
+  unfolding entriesAt
+  whole-at k h = whole (length f) at c big (run f at (dirLen c)) (r .low) (r .whole) (r .seven) (tagAt k) (tag-some k h)
+
+  bytes-are : (k : ℕ) → k < 21 → bytesOf (tagAt k) Hs ≡ run f (Of k .start) (Of k .len)
+  unfolding heldAt entriesAt
+  bytes-are k h = found-bytes f (tagAt k) big at c (run f at (dirLen c)) (tag-listed k h)
+
+  pub slot : (k : ℕ) → k < 21 → Slot f Hs typs counts starts lens (tagAt k) k
+  unfolding has
+  slot k h =
+      let s = start-is k h in
+      let l = len-is k h in
+      let w = whole-at k h in
+      record {
+        typ = ap (λ (e : Entry). e .typ) (held-is k) ∙ typ-is k h;
+        count = ap (λ (e : Entry). e .count) (held-is k) ∙ count-is k h;
+        start = ap (λ (e : Entry). e .start) (held-is k) ∙ s;
+        len = ap (λ (e : Entry). e .len) (held-is k) ∙ l;
+        bytes = bytes-are k h ∙ ap₂ (run f) s l;
+        present = ap (λ (e : Entry). eqb (e .tag) (tagAt k)) (held-is k) ∙ w .has ∙ ap (λ (x : ℕ). not (eqb x 0)) s;
+        none = λ z. sym l ∙ w .none (s ∙ z);
+        size = sym l ∙ w .size ∙ ap₂ (λ (x y : ℕ). sizeOf x * y) (typ-is k h) (count-is k h);
+        within = subst (λ (x : ℕ). x + getD lens k 0 ≤ length f) s (subst (λ (y : ℕ). Of k .start + y ≤ length f) l (w .within));
+      }
+
+  -- ---- rules 27, 9 and 10
+
+  present-at : (k : ℕ) → k < 21 → has (tagAt k) Hs ≡ not (eqb (getD starts k 0) 0)
+  present-at k h = slot k h .present
 
   -- the families
-  pub strips-are : someAt stripSlots starts ≡ hasSome stripTags (heldAt f big at c)
+  pub strips-are : someAt stripSlots starts ≡ hasSome stripTags Hs
   unfolding someAt hasSome some tagAt lineAt table
   strips-are = rw (present-at 5 (lit< tt), present-at 7 (lit< tt), present-at 8 (lit< tt))
 
-  pub tiles-are : someAt tileSlots starts ≡ tiled (heldAt f big at c)
+  pub tiles-are : someAt tileSlots starts ≡ tiled Hs
   unfolding someAt hasSome some tagAt lineAt table
   tiles-are = rw (present-at 10 (lit< tt), present-at 11 (lit< tt), present-at 12 (lit< tt), present-at 13 (lit< tt))
 
-  lacks-at : (k : ℕ) → k < 21 → lacks (heldAt f big at c) (lineAt k) ≡ lacksAt (tiled (heldAt f big at c)) starts k
+  lacks-at : (k : ℕ) → k < 21 → lacks Hs (lineAt k) ≡ lacksAt (tiled Hs) starts k
   unfolding lacks lacksAt tagAt
   lacks-at k h =
-      ap (λ (b : Bool). lineAt k .needed (tiled (heldAt f big at c)) && b) (ap not (present-at k h) ∙ Bool·not-not (eqb (getD starts k 0) 0))
+      ap (λ (b : Bool). lineAt k .needed (tiled Hs) && b) (ap not (present-at k h) ∙ Bool·not-not (eqb (getD starts k 0) 0))
 
-  pub nine-is : nineFrom 0 (tiled (heldAt f big at c)) starts ≡ rule9 table (heldAt f big at c)
+  pub nine-is : nineFrom 0 (tiled Hs) starts ≡ rule9 table Hs
   unfolding nineFrom rule9
-  nine-is = first-slots (lacks (heldAt f big at c)) (lacksAt (tiled (heldAt f big at c)) starts) lacks-at
+  nine-is = first-slots (lacks Hs) (lacksAt (tiled Hs) starts) lacks-at
 
-  misfits-at : (k : ℕ) → k < 21 → misfits (heldAt f big at c) (lineAt k) ≡ misfitAt typs counts starts k
+  misfits-at : (k : ℕ) → k < 21 → misfits Hs (lineAt k) ≡ misfitAt typs counts starts k
   unfolding misfits misfitAt misfit unlike fitsLine tagAt
   misfits-at k h =
-      let s = slot f big at c typs counts starts lens r k h in
+      let s = slot k h in
       rw (s .present, s .typ, s .count)
 
-  pub ten-is : tenFrom 0 typs counts starts ≡ rule10 table (heldAt f big at c)
+  pub ten-is : tenFrom 0 typs counts starts ≡ rule10 table Hs
   unfolding tenFrom rule10
-  ten-is = first-slots (misfits (heldAt f big at c)) (misfitAt typs counts starts) misfits-at
+  ten-is = first-slots (misfits Hs) (misfitAt typs counts starts) misfits-at

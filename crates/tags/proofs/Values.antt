@@ -1,6 +1,6 @@
 -- The values that rules 11 and 12 ask for, as code tests and reads them. Assumes nothing.
 use Prim.Native.Nat.{ℕ, suc, _+_, _-_, _*_, _≤_, _<_}
-use mathlib.Core.Path.{_≡_, refl, sym, ap, _∙_}
+use mathlib.Core.Path.{_≡_, sym, ap, _∙_}
 use mathlib.Core.Bool.{Bool, true, false, _&&_, _||_, or-false, and-true, and-assoc}
 use mathlib.Core.List.{List, [], _∷_, map}
 use native.Mathlib.Nat.{le-refl, suc-mul, mul-le-mul, le-of-suc-le-suc, div-lt-iff-lt-mul}
@@ -15,7 +15,7 @@ use Rattle.paper.specs.Tags.{roundedUp}
 use Rattle.paper.specs.Tests.{all, some, just, allows}
 use Rattle.paper.proofs.Laws.{just-is}
 use Rattle.paper.proofs.Loops.{all-step, build-end}
-use Rattle.tags.specs.Numbers.{Single}
+use Rattle.tags.specs.Numbers.{depths, bitsIn, Single}
 
 -- ---- one of some numbers
 
@@ -46,29 +46,35 @@ short-within s e = let w = s .within in rw (not-long s e) at w
 
 -- ---- a pass over k SHORTs
 
-module _ (s : List ℕ) (big : Bool) (k : ℕ) (ok : ℕ → Bool) where
-  abbrev shortAt : ℕ → ℕ
-  shortAt j = num big 2 s (2 * j)
+abbrev shortAt : Bool → List ℕ → ℕ → ℕ
+shortAt big s j = num big 2 s (2 * j)
 
-  -- b is the test of those before i
-  pub SoFar : ℕ → Bool → Type 0
-  SoFar i b = b && all ok (build shortAt i (k - i)) ≡ all ok (elems big 2 k s)
+-- b is the test of those before i
+pub record SoFar (s : List ℕ) (big : Bool) (k : ℕ) (ok : ℕ → Bool) (i : ℕ) (b : Bool) : Type 0 where
+  pub same : b && all ok (build (shortAt big s) i (k - i)) ≡ all ok (elems big 2 k s)
 
-  pub so-far-none : SoFar 0 true
-  unfolding SoFar elems
-  so-far-none = let e : k - 0 ≡ k = omega arith in rw e
+module _ {s : List ℕ} {big : Bool} {k : ℕ} {ok : ℕ → Bool} where
+  pub so-far-none : SoFar s big k ok 0 true
+  unfolding elems
+  so-far-none = let e : k - 0 ≡ k = omega arith in record { same = rw e }
 
-  pub so-far-more : (i : ℕ) (b r : Bool) (v : ℕ) → i < k → v ≡ num big 2 s (2 * i) → r ≡ ok v → SoFar i b → SoFar (i + 1) (b && r)
-  unfolding SoFar
-  so-far-more i b r v l e t h =
-      and-assoc b r _ ∙ ap (λ (x : Bool). b && x) (ap (λ (x : Bool). x && all ok (build shortAt (i + 1) (k - (i + 1)))) (t ∙ ap ok e) ∙ sym (all-step ok shortAt i k l)) ∙ h
+  pub so-far-more : {i v : ℕ} {b r : Bool} → i < k → v ≡ num big 2 s (2 * i) → r ≡ ok v → SoFar s big k ok i b → SoFar s big k ok (i + 1) (b && r)
+  so-far-more {i} {v} {b} {r} l e t h =
+      let rest = all ok (build (shortAt big s) (i + 1) (k - (i + 1))) in
+      let step : r && rest ≡ all ok (build (shortAt big s) i (k - i)) = ap (λ (x : Bool). x && rest) (t ∙ ap ok e) ∙ sym (all-step ok (shortAt big s) i k l) in
+      record { same = and-assoc b r rest ∙ ap (λ (x : Bool). b && x) step ∙ h .same }
 
-  pub so-far-all : (i : ℕ) (b : Bool) → k ≤ i → i ≤ k → SoFar i b → b ≡ all ok (elems big 2 k s)
-  unfolding SoFar all
-  so-far-all i b l m h =
+  so-far-all : {i : ℕ} {b : Bool} → k ≤ i → i ≤ k → SoFar s big k ok i b → b ≡ all ok (elems big 2 k s)
+  unfolding all
+  so-far-all {i} {b} l m h =
       let e : i ≡ k = omega arith in
-      let z : all ok (build shortAt i (k - i)) ≡ true = rw (e, build-end shortAt k) in
-      sym (and-true b) ∙ ap (λ (x : Bool). b && x) (sym z) ∙ h
+      let z : all ok (build (shortAt big s) i (k - i)) ≡ true = rw (e, build-end (shortAt big s) k) in
+      sym (and-true b) ∙ ap (λ (x : Bool). b && x) (sym z) ∙ h .same
+
+pub bits-read : {s : List ℕ} {big : Bool} {k i first : ℕ} {allowed same : Bool} → k ≤ i → i ≤ k → first ≡ num big 2 s 0
+    → SoFar s big k (allows depths) i allowed → SoFar s big k (eqb first) i same → record { first = first; allowed = allowed; same = same } ≡ bitsIn big k s
+unfolding bitsIn
+bits-read l m e a b = rw (so-far-all l m a, so-far-all l m b, e)
 
 -- ---- a quotient, rounded up
 

@@ -95,7 +95,7 @@ pub record Readable (n : ℕ) (tiled : Bool) (typs starts : List ℕ) : Type 0 w
   pub tilelength : SingleIf tiled n (getD typs 11 0) (getD starts 11 0)
 
 -- each number that is counted with is one of 4 bytes
-pub record Low (n : Numbers) : Type 0 where
+pub record FourBytes (n : Numbers) : Type 0 where
   pub width : n .width < 4294967296
   pub length : n .length < 4294967296
   pub rows : n .rows < 4294967296
@@ -116,10 +116,10 @@ pub record Untiled (n : Numbers) : Type 0 where
   pub length : n .tilelength ≡ 16
 
 unfoldable pub elevenOf : Numbers → Bool → Outcome
-elevenOf n depths =
+elevenOf n bitsallowed =
     cond (not (allows sides (n .width))) (broken Tag.width)
     (cond (not (allows sides (n .length))) (broken Tag.length)
-    (cond (not depths) (broken Tag.bits)
+    (cond (not bitsallowed) (broken Tag.bits)
     (cond (not (allows codings (n .compression))) (broken Tag.compression)
     (cond (not (allows (between 0 3 ∷ []) (n .photometric))) (broken Tag.photometric)
     (cond (not (allows (between 1 8 ∷ []) (n .samples))) (broken Tag.samples)
@@ -130,7 +130,7 @@ elevenOf n depths =
 
 -- what rule 11 leaves to be counted with
 pub record Countable (n : Numbers) : Type 0 where
-  pub low : Low n
+  pub four-bytes : FourBytes n
   pub width : n .width ≤ 1000000
   pub length : n .length ≤ 1000000
   pub rows : 0 < n .rows
@@ -143,10 +143,10 @@ countOfPieces n tiled =
 
 -- with the counts of 258, of the offsets and of the byte counts
 unfoldable pub twelveOf : Numbers → Bits → Bool → ℕ → ℕ → ℕ → Outcome
-twelveOf n bits tiled depths offsets sizes =
+twelveOf n bits tiled bitscount offsets bytecounts =
     firstOf
-    (breaks (not (eqb depths (n .samples)) || not (bits .same)) Tag.bits
+    (breaks (not (eqb bitscount (n .samples)) || not (bits .same)) Tag.bits
     ∷ breaks ((eqb (n .compression) 2 || eqb (n .compression) 32773) && (not (eqb (bits .first) 1) || not (eqb (n .samples) 1))) Tag.compression
     ∷ breaks (not (eqb offsets (countOfPieces n tiled))) (cond tiled Tag.tileOffsets Tag.stripOffsets)
-    ∷ breaks (not (eqb sizes (countOfPieces n tiled))) (cond tiled Tag.tileByteCounts Tag.stripByteCounts)
+    ∷ breaks (not (eqb bytecounts (countOfPieces n tiled))) (cond tiled Tag.tileByteCounts Tag.stripByteCounts)
     ∷ [])

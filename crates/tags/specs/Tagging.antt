@@ -3,19 +3,19 @@
 use Prim.Native.Nat.{ℕ, _+_, _≤_, _<_}
 use mathlib.Core.Path.{_≡_}
 use mathlib.Core.Bool.{Bool, cond, _&&_}
-use mathlib.Core.List.{List, [], _∷_, map}
+use mathlib.Core.List.{List, map}
 use lib.ListN.{length}
 use Rattle.paper.specs.Bytes.{run}
-use Rattle.paper.specs.Outcome.{Rule, _▸_, first}
+use Rattle.paper.specs.Outcome.{first}
 use Rattle.paper.specs.Layout.{dirLen, entries, rule7}
 use Rattle.paper.specs.Tag
-use Rattle.paper.specs.Tags.{table, Held, hold, valueOf, tiled, rule27, rule9, rule10, rule11, rule12}
-use Rattle.paper.specs.Judge.{View}
+use Rattle.paper.specs.Tags.{table, Held, hold, valueOf, tiled, rule27, rule9, rule10}
+use Rattle.paper.specs.Judge.{View, tableRules}
 use Rattle.paper.specs.Calls.{accepts}
 use Rattle.paper.specs.declared.Entry.{Entry}
 use Rattle.paper.specs.declared.Outcome.the-variants.{Kept as kept}
 use Rattle.paper.specs.declared.Verdict.{Verdict}
-use Rattle.layout.specs.Columns.{typsOf, countsOf, startsOf, lensOf}
+use Rattle.layout.specs.Columns.{typColumn, countColumn, startColumn, lenColumn}
 use Rattle.tags.specs.declared.Tagged.{Tagged}
 
 -- the entries of the directory at a place of the file, and these with their value bytes
@@ -28,16 +28,6 @@ heldAt f big at c = map (hold table f) (entriesAt f big at c)
 unfoldable pub viewOf : List ℕ → Bool → ℕ → ℕ → View
 viewOf f big at c =
     record { table = table; head = record { size = length f; big = big; at = at }; count = c; held = heldAt f big at c }
-
--- rules 27 and 9 to 12
-unfoldable pub tableRules : View → List Rule
-tableRules v =
-    27 ▸ rule27 (v .held)
-    ∷ 9 ▸ rule9 (v .table) (v .held)
-    ∷ 10 ▸ rule10 (v .table) (v .held)
-    ∷ 11 ▸ rule11 (v .table) (v .head .big) (v .held)
-    ∷ 12 ▸ rule12 (v .head .big) (v .held)
-    ∷ []
 
 -- what is told of the picture goes with verdict 0 only
 unfoldable pub taggedBy : Verdict → View → Tagged
@@ -59,10 +49,10 @@ pub record Ready (f : List ℕ) (big : Bool) (at c : ℕ) (typs counts starts le
   pub some : 0 < c
   pub few : c ≤ 1024
   pub whole : at + dirLen c ≤ length f
-  pub typs-are : typs ≡ typsOf (entriesAt f big at c)
-  pub counts-are : counts ≡ countsOf (entriesAt f big at c)
-  pub starts-are : starts ≡ startsOf at (entriesAt f big at c)
-  pub lens-are : lens ≡ lensOf c (entriesAt f big at c)
+  pub typs-are : typs ≡ typColumn (entriesAt f big at c)
+  pub counts-are : counts ≡ countColumn (entriesAt f big at c)
+  pub starts-are : starts ≡ startColumn at (entriesAt f big at c)
+  pub lens-are : lens ≡ lenColumn c (entriesAt f big at c)
   pub seven : rule7 (length f) (entriesAt f big at c) ≡ kept
 
 -- the same where rules 27, 9 and 10 are kept, and the picture is in tiles or not

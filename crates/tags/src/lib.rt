@@ -9,7 +9,7 @@ ghost use lib.ListN.{length, getD};
 ghost use Rattle.paper.specs.Tests.{between, allows};
 ghost use Rattle.paper.specs.Tags.{sixteens, roundedUp};
 ghost use Rattle.tags.specs.Slots.{someAt, stripSlots, tileSlots, nineFrom, unlike, misfit, tenFrom, Chosen, offsetsSlot, byteCountsSlot};
-ghost use Rattle.tags.specs.Numbers.{depths, codings, bitsIn, shortIn, numberIn, numberIf, Single, SingleIf, Readable, numbersIn, Low, Untiled, elevenOf, Countable, countOfPieces, twelveOf};
+ghost use Rattle.tags.specs.Numbers.{depths, codings, bitsIn, shortIn, numberIn, numberIf, Single, SingleIf, Readable, numbersIn, FourBytes, Untiled, elevenOf, Countable, countOfPieces, twelveOf};
 ghost use Rattle.tags.specs.Tagging.{viewOf, taggedOf, Ready, Fitting};
 use paper::Outcome;
 use paper::Verdict;
@@ -86,7 +86,7 @@ pub fn offsets_slot(tiled: bool) -> usize
 }
 
 // And of the one with their byte counts.
-pub fn sizes_slot(tiled: bool) -> usize
+pub fn byte_counts_slot(tiled: bool) -> usize
     ensures { λ r. ⌜ (r ≡ byteCountsSlot tiled) × (r < 21) ⌝ }
 {
     if tiled { 13 } else { 8 }
@@ -343,7 +343,7 @@ fn read_numbers(
     starts: &[usize; 23],
 ) -> Numbers
     requires { ⌜ Readable (length (now file)) tiled (now typs) (now starts) ⌝ }
-    ensures { λ r. ⌜ (r ≡ numbersIn big (now (file .entry)) tiled (now (typs .entry)) (now (starts .entry))) × Low r ⌝ }
+    ensures { λ r. ⌜ (r ≡ numbersIn big (now (file .entry)) tiled (now (typs .entry)) (now (starts .entry))) × FourBytes r ⌝ }
 {
     Numbers {
         width: number_at(file, big, typs[0], starts[0]),
@@ -410,10 +410,10 @@ fn is_sixteens(v: usize) -> bool
     (0 < v) & (v % 16 == 0)
 }
 
-// Rule 11: the lowest tag with a value that is not allowed. `depths` says whether those of 258 are.
-fn allowed_values(n: Numbers, depths: bool, tiled: bool) -> Outcome
+// Rule 11: the lowest tag with a value that is not allowed. `bitsallowed` says whether those of 258 are.
+fn allowed_values(n: Numbers, bitsallowed: bool, tiled: bool) -> Outcome
     requires { ⌜ (tiled ≡ false → Untiled n) ⌝ }
-    ensures { λ r. ⌜ r ≡ elevenOf n depths ⌝ }
+    ensures { λ r. ⌜ r ≡ elevenOf n bitsallowed ⌝ }
 {
     if !is_between(n.width, 1, 1000000) {
         return Outcome::Broken(256);
@@ -421,7 +421,7 @@ fn allowed_values(n: Numbers, depths: bool, tiled: bool) -> Outcome
     if !is_between(n.length, 1, 1000000) {
         return Outcome::Broken(257);
     }
-    if !depths {
+    if !bitsallowed {
         return Outcome::Broken(258);
     }
     if !is_coding(n.compression) {
@@ -475,14 +475,14 @@ fn agreeing_tags(
     n: Numbers,
     bits: Bits,
     tiled: bool,
-    depths: usize,
+    bitscount: usize,
     offsets: usize,
-    sizes: usize,
+    bytecounts: usize,
 ) -> Outcome
     requires { ⌜ Countable n ⌝ }
-    ensures { λ r. ⌜ r ≡ twelveOf n bits tiled depths offsets sizes ⌝ }
+    ensures { λ r. ⌜ r ≡ twelveOf n bits tiled bitscount offsets bytecounts ⌝ }
 {
-    if (depths != n.samples) | !bits.same {
+    if (bitscount != n.samples) | !bits.same {
         return Outcome::Broken(258);
     }
     let coded = (n.compression == 2) | (n.compression == 32773);
@@ -493,7 +493,7 @@ fn agreeing_tags(
     if offsets != pieces {
         return Outcome::Broken(if tiled { 324 } else { 273 });
     }
-    if sizes != pieces {
+    if bytecounts != pieces {
         return Outcome::Broken(if tiled { 325 } else { 279 });
     }
     Outcome::Kept
@@ -537,8 +537,8 @@ fn judge_values(
         return refused(11, place);
     }
     let offsets = counts[offsets_slot(tiled)];
-    let sizes = counts[sizes_slot(tiled)];
-    let twelve = agreeing_tags(n, bits, tiled, counts[2], offsets, sizes);
+    let bytecounts = counts[byte_counts_slot(tiled)];
+    let twelve = agreeing_tags(n, bits, tiled, counts[2], offsets, bytecounts);
     if let Outcome::Broken(place) = twelve {
         return refused(12, place);
     }

@@ -22,9 +22,11 @@ use Rattle.paper.proofs.Called.{answer-good, answer-bad}
 use Rattle.paper.proofs.Citation.{cite-within}
 use Rattle.paper.proofs.Laws.{run-length-in}
 use Rattle.tags.specs.Slots.{tagAt, lineAt}
-use Rattle.judge.specs.Examining.{runOf, examinedIn, examinedOf}
+use Rattle.image.specs.Imaging.{tagPart}
+use Rattle.judge.specs.Examining.{examinedIn, examinedOf}
 use Rattle.judge.specs.declared.Examined.{Examined}
-use Rattle.judge.proofs.Seen.{Stands, accepted, found, size, seventeen, stands}
+use Rattle.paper.proofs.Keeps.{rule17-kept}
+use Rattle.judge.proofs.Seen.{Stands, accepted, found, size, stands}
 use Rattle.texts.proofs.Entries.{verdict-is, entriesBy, lists}
 
 -- a refusal
@@ -74,7 +76,7 @@ module _ (f : List ℕ) (zero : verdictOf f .number ≡ 0) (k : ℕ) where
   in-file : kindOf k ≡ 2 → Of .key ≡ k → (1 ≤ Of .count) × (startsOf (view f) .characters + Of .index + Of .count ≤ length f)
   unfolding hasKey startsOf
   in-file h p =
-      let w = cite-within (runsOf (view f)) k (seventeen f zero) h (eq-eqb _ k p) in
+      let w = cite-within (runsOf (view f)) k (rule17-kept f zero) h (eq-eqb _ k p) in
       (w .0, omega (arith, w .1, chars-length, characters .within))
 
 -- the entry x of key k, with the characters from s on: one "|" at least, all in the file, and the citation is what stands before it
@@ -112,7 +114,7 @@ module _ (f : List ℕ) (e : Examined) (k : ℕ) (p : (e ≡ examinedOf f) × (e
       key-is = ap (λ (y : KeyEntry). y .key) (sym of-keys) ∙ has
 
       start-is : e .characters .start ≡ startsOf (view f) .characters
-      unfolding examinedIn runOf startsOf
+      unfolding examinedIn tagPart startsOf
       start-is = ap (λ (y : Examined). y .characters .start) (found f e (p .0) (p .1))
 
       -- with the paper's start and the paper's entry in place of those at hand

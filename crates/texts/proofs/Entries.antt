@@ -17,10 +17,11 @@ use Rattle.paper.proofs.Called.{judged-verdict}
 use Rattle.tags.specs.Slots.{tagAt, lineAt}
 use Rattle.keys.specs.Pass.{runs}
 use Rattle.keys.proofs.Head.{Headed, headed}
-use Rattle.judge.specs.Examining.{runOf, examinedIn, examinedOf}
+use Rattle.image.specs.Imaging.{tagPart}
+use Rattle.judge.specs.Examining.{examinedIn, examinedOf}
 use Rattle.judge.specs.declared.Examined.{Examined}
-use Rattle.judge.proofs.Laid.{judged-is}
-use Rattle.judge.proofs.Seen.{Stands, accepted, found, fifteen, stands}
+use Rattle.paper.proofs.Keeps.{rule15-kept}
+use Rattle.judge.proofs.Seen.{Stands, judged-is, accepted, found, stands}
 
 pub verdict-is : (f : List ℕ) (e : Examined) → e ≡ examinedOf f → e .judged .verdict ≡ verdictOf f
 verdict-is f e is = ap (λ (x : Examined). x .judged .verdict) is ∙ ap (λ (j : Judged). j .verdict) (judged-is f) ∙ judged-verdict f
@@ -47,10 +48,10 @@ module _ (f : List ℕ) (zero : verdictOf f .number ≡ 0) where
 
   head-is : Headed (view f .head .big) (bytesOf Tag.keyDirectory (view f .held))
   unfolding rule15 short keyCount runsOf
-  head-is = headed (view f .head .big) (bytesOf Tag.keyDirectory (view f .held)) (rule15 (runsOf (view f))) refl (fifteen f zero)
+  head-is = headed (view f .head .big) (bytesOf Tag.keyDirectory (view f .held)) (rule15 (runsOf (view f))) refl (rule15-kept f zero)
 
   in-view : Lists f (examinedIn (view f))
-  unfolding examinedIn judgedIn runOf runsOf keys keyCount short keyAt
+  unfolding examinedIn judgedIn tagPart runsOf keys keyCount short keyAt
   in-view =
       let b = directory .bytes in
       record {

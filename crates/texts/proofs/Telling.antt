@@ -15,7 +15,8 @@ use Rattle.paper.specs.declared.Text.{Text}
 use Rattle.paper.specs.declared.Verdict.{Verdict}
 use Rattle.paper.proofs.Called.{answer-good, answer-bad}
 use Rattle.tags.specs.Slots.{tagAt, lineAt}
-use Rattle.judge.specs.Examining.{runOf, examinedIn, examinedOf}
+use Rattle.image.specs.Imaging.{tagPart}
+use Rattle.judge.specs.Examining.{examinedIn, examinedOf}
 use Rattle.judge.specs.declared.Examined.{Examined}
 use Rattle.judge.proofs.Seen.{Stands, accepted, found, stands, present}
 use Rattle.texts.proofs.Entries.{verdict-is}
@@ -53,7 +54,7 @@ module _ (f : List ℕ) (zero : verdictOf f .number ≡ 0) (m : ℕ) where
   stands-in = stands f zero 20 (lit< tt)
 
   in-view : Told f (examinedIn (view f)) m
-  unfolding examinedIn judgedIn runOf textIn
+  unfolding examinedIn judgedIn tagPart textIn
   in-view =
       record {
         outside = λ h. rw (has-is, eq-eqb _ 0 h) at text-is;

@@ -1,17 +1,19 @@
 //! The two judges on the same files: the compiled one and the fast Rust one.
 //!
 //!   speed write FOLDER           the files, as frames: a length and the bytes
+//!   speed count FRAMES           how many are in strips, in tiles, accepted
 //!   speed time FRAMES            the best time of many passes, and the ratio
 //!   speed run CALL PASSES FRAMES one call only, for counting instructions
 //!   speed fetch PIECES FRAMES    the compiled judge once on a file of so many
 //!                                pieces; prints where their words stand
 //!
-//! All but `write` need the static library linked. outside/speed runs it.
+//! All but `write` and `count` need the static library linked. outside/speed
+//! runs it.
 
 use outside::generator::large::many_pieces;
 use outside::generator::sample;
-use outside::reader::tables::BOTH;
-use outside::reader::Order;
+use outside::reader::tables::{Family, BOTH};
+use outside::reader::{families, judge, Order};
 use std::path::Path;
 use std::process::ExitCode;
 
@@ -23,6 +25,7 @@ fn main() -> ExitCode {
     let words: Vec<&str> = words.iter().map(String::as_str).collect();
     match words[..] {
         ["write", folder] => write_all(Path::new(folder)),
+        ["count", path] => count(&load(path)),
         ["time", path] => measure::time(&load(path)),
         ["run", call, passes, path] => match passes.parse() {
             Ok(passes) => measure::run(call, passes, &load(path)),
@@ -38,8 +41,8 @@ fn main() -> ExitCode {
 }
 
 fn usage() -> ExitCode {
-    eprintln!("speed write FOLDER\nspeed time FRAMES\nspeed run CALL PASSES FRAMES");
-    eprintln!("speed fetch PIECES FRAMES");
+    eprintln!("speed write FOLDER\nspeed count FRAMES\nspeed time FRAMES");
+    eprintln!("speed run CALL PASSES FRAMES\nspeed fetch PIECES FRAMES");
     ExitCode::FAILURE
 }
 
@@ -82,6 +85,31 @@ fn load(path: &str) -> Vec<Vec<u8>> {
         rest = after;
     }
     files
+}
+
+/// Prints how many of the files carry a tag of each family, by the directory
+/// that rules 1 to 5 leave, and how many the second reader accepts.
+fn count(files: &[Vec<u8>]) {
+    // by tags of strips, by tags of tiles: all files, and the accepted ones
+    let mut found = [[[0; 2]; 2]; 2];
+    let mut closed = 0;
+    for file in files {
+        let present = families(file);
+        closed += usize::from(present.is_none());
+        let carries = |family| usize::from(present.iter().flatten().any(|&one| one == family));
+        let (strips, tiles) = (carries(Family::Strips), carries(Family::Tiles));
+        found[strips][tiles][0] += 1;
+        found[strips][tiles][1] += usize::from(judge(file).verdict.number == 0);
+    }
+    let [[[neither, _], [tiles, tiles_kept]], [[strips, strips_kept], [both, _]]] = found;
+    println!(
+        "{} of {} files with a tag of tiles, {} with one of strips, {both} with both, \
+         {neither} with neither ({closed} without a directory); {} accepted, {tiles_kept} in tiles",
+        tiles + both,
+        files.len(),
+        strips + both,
+        tiles_kept + strips_kept
+    );
 }
 
 #[cfg(not(direct))]

@@ -1,7 +1,7 @@
 //! The head and the directory of the file: rules 1 to 8 and 27.
 
 use super::number::{index, long, short, size_of_type, Order};
-use super::tables::{Family, Need, TagRow, LONGEST, MOST_ENTRIES, TAGS};
+use super::tables::{Family, Need, TagRow, BOTH, LONGEST, MOST_ENTRIES, TAGS};
 use super::verdict::{refuse, Refusal};
 use std::ops::Range;
 
@@ -79,6 +79,14 @@ impl<'a> Directory<'a> {
         &self.file[index(value.start)..index(value.end)]
     }
 
+    /// The value bytes of every entry whose tag is in the table, of types 1 to
+    /// 12.
+    pub fn listed_values(&self) -> Vec<(u16, Range<u64>)> {
+        let in_table = |tag: u16| self.table().any(|row| row.tag == tag);
+        let entries = self.entries.iter().filter(|entry| in_table(entry.tag));
+        entries.filter_map(|entry| Some((entry.tag, entry.value()?))).collect()
+    }
+
     /// Rule 6: each tag is greater than the one before.
     pub fn rule6(&self) -> Result<(), Refusal> {
         for pair in self.entries.windows(2) {
@@ -112,17 +120,27 @@ impl<'a> Directory<'a> {
         Ok(())
     }
 
+    /// The families of which some tag is present.
+    fn present(&self) -> Vec<Family> {
+        let present = |family: &Family| family.tags().any(|tag| self.find(tag).is_some());
+        self.families.iter().copied().filter(present).collect()
+    }
+
     /// Rule 27: tags of just one family are present, and that is the family.
     /// Where the rules know one alone there is nothing to ask.
     pub fn rule27(&self) -> Result<Family, Refusal> {
-        let present = |family: &&Family| family.tags().any(|tag| self.find(tag).is_some());
-        let found: Vec<&Family> = self.families.iter().filter(present).collect();
-        match (self.families, &found[..]) {
-            (&[family], _) | (_, &[&family]) => Ok(family),
+        match (self.families, &self.present()[..]) {
+            (&[family], _) | (_, &[family]) => Ok(family),
             (_, []) => refuse(27, 0, "neither family"),
             _ => refuse(27, 0, "both families"),
         }
     }
+}
+
+/// The families of which a file carries some tag; none where rules 1 to 5 leave
+/// no directory to look in.
+pub fn families(file: &[u8]) -> Option<Vec<Family>> {
+    Some(Directory::open(file, BOTH).ok()?.present())
 }
 
 /// Rules 1 to 4: the byte order and the directory's offset.

@@ -1,8 +1,8 @@
 //! The variety of accepted files: labels that the coverage table counts, so
 //! that the generator cannot quietly stop making a kind of file.
 
-use super::calls::{examine, Accepted};
 use super::directory::Entry;
+use super::examine::{examine, Accepted};
 use super::ground::Georeference;
 use super::keys::number_of;
 use super::number::Order;

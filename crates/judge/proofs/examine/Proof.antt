@@ -1,50 +1,95 @@
-use Rattle.judge.proofs.Laid.{opened-bad}
-use mathlib.Core.Path.{_≡_, refl, ap, sym, _∙_}
+-- `examine` asks for the image, then for the survey of the values that the image names. Assumes nothing.
+use mathlib.Core.Path.{_∙_}
 use borrow.Author.Needs.{needs}
+use Rattle.judge.proofs.Examining.{directory-named, doubles-named, characters-named, scale-named, tiepoint-named, matrix-named}
+use Rattle.judge.proofs.Examining.{image-bad, runs-sized, survey-bad, both-good}
 use Rattle.judge.proofs.examine.Statement.{statement}
 use Rattle.judge.proofs.examine.Tie as tie
-use Rattle.judge.proofs.examine.Reads as reads
-use Rattle.judge.proofs.examine.Lts as lts
-use Rattle.judge.proofs.judge_laid.Reads as judge-laid-reads
-use Rattle.judge.proofs.refused.Reads as refused-reads
-use Rattle.layout.proofs.open.Reads as open-reads
 
--- src/lib.rt:166:9
-open-requires : tie.Need-open-requires
-open-requires c κs = search needs
+judge-image-requires : tie.Need-judge-image-requires
+judge-image-requires c κs = search needs
 
--- src/lib.rt:168:33
-enum-known-o : tie.Need-enum-known-o
-enum-known-o c = search needs
-
--- src/lib.rt:168:51
 refused-requires : tie.Need-refused-requires
 refused-requires c κs = search needs
 
--- src/lib.rt:169:30
-enum-known-o-2 : tie.Need-enum-known-o-2
-enum-known-o-2 c = search needs
-
--- src/lib.rt:169:45
-judge-laid-requires : tie.Need-judge-laid-requires
-judge-laid-requires c κs = sym (c .before .before .before .«open» .ensures) ∙ c .before .o2 .given .1
-
--- src/lib.rt:163:1
 returns : tie.Need-returns
-returns c = c .refused .ensures ∙ opened-bad (c .before .before .before .before .before .before .args .file .now) _ _ (sym (c .before .before .before .before .«open» .ensures) ∙ c .before .before .o .given .1)
+returns c = c .refused .ensures ∙ image-bad _ (c .before .before .before .judge-image .ensures) (c .before .if1 .taken)
 
--- src/lib.rt:163:1
+value-requires : tie.Need-value-requires
+value-requires c κs =
+    let b = c .before .before .before .before in
+    directory-named _ (b .before .before .judge-image .ensures) (b .if1 .left) .within
+
+value-requires-2 : tie.Need-value-requires-2
+value-requires-2 c κs =
+    let b = c .before .before .before .before .before in
+    doubles-named _ (b .before .before .judge-image .ensures) (b .if1 .left) .within
+
+value-requires-3 : tie.Need-value-requires-3
+value-requires-3 c κs =
+    let b = c .before .before .before .before .before .before in
+    characters-named _ (b .before .before .judge-image .ensures) (b .if1 .left) .within
+
+value-requires-4 : tie.Need-value-requires-4
+value-requires-4 c κs =
+    let b = c .before .before .before .before .before .before .before in
+    scale-named _ (b .before .before .judge-image .ensures) (b .if1 .left) .within
+
+value-requires-5 : tie.Need-value-requires-5
+value-requires-5 c κs =
+    let b = c .before .before .before .before .before .before .before .before in
+    tiepoint-named _ (b .before .before .judge-image .ensures) (b .if1 .left) .within
+
+value-requires-6 : tie.Need-value-requires-6
+value-requires-6 c κs =
+    let b = c .before .before .before .before .before .before .before .before .before in
+    matrix-named _ (b .before .before .judge-image .ensures) (b .if1 .left) .within
+
+judge-survey-requires : tie.Need-judge-survey-requires
+judge-survey-requires c κs =
+    let v = c in
+    let u = v .before .before .before in
+    let i = u .before .before .before .before in
+    runs-sized _ (i .before .before .before .before .before .judge-image .ensures) (i .before .before .before .if1 .left)
+    (u .before .before .value .ensures) (u .before .value2 .ensures) (u .value3 .ensures)
+    (v .before .before .value4 .ensures) (v .before .value5 .ensures) (v .value6 .ensures)
+
+refused-requires-2 : tie.Need-refused-requires-2
+refused-requires-2 c κs = search needs
+
 returns-2 : tie.Need-returns-2
-returns-2 c = search needs
+returns-2 c =
+    let v = c .before .before .before .before in
+    let u = v .before .before .before in
+    let i = u .before .before .before .before in
+    c .refused2 .ensures
+    ∙ survey-bad _ (i .before .before .before .before .before .judge-image .ensures) (i .before .before .before .if1 .left)
+    (u .before .before .value .ensures) (u .before .value2 .ensures) (u .value3 .ensures)
+    (v .before .before .value4 .ensures) (v .before .value5 .ensures) (v .value6 .ensures) (c .before .before .before .judge-survey .ensures) (c .before .if2 .taken)
+
+returns-3 : tie.Need-returns-3
+returns-3 c =
+    let v = c .before .before .before in
+    let u = v .before .before .before in
+    let i = u .before .before .before .before in
+    both-good _ (i .before .before .before .before .before .judge-image .ensures) (i .before .before .before .if1 .left)
+    (u .before .before .value .ensures) (u .before .value2 .ensures) (u .value3 .ensures)
+    (v .before .before .value4 .ensures) (v .before .value5 .ensures) (v .value6 .ensures) (c .before .before .judge-survey .ensures) (c .if2 .left)
 
 pub examine-spec : {M : Type 1} → statement M
 examine-spec =
     tie.close
     (tie.spec
-    open-requires
-    enum-known-o
+    judge-image-requires
     refused-requires
-    enum-known-o-2
-    judge-laid-requires
     returns
-    returns-2)
+    value-requires
+    value-requires-2
+    value-requires-3
+    value-requires-4
+    value-requires-5
+    value-requires-6
+    judge-survey-requires
+    refused-requires-2
+    returns-2
+    returns-3)

@@ -117,13 +117,21 @@ loop2-less-3 c = omega arith
 loop2-again-3 : tie.Need-loop2-again-3 Inv-loop μ-loop Inv-loop2 μ-loop2
 loop2-again-3 c = search turn-other
 
+told-requires : tie.Need-told-requires Inv-loop μ-loop Inv-loop2 μ-loop2
+told-requires c κs = ⊎-elim (λ w. rw (w .3) (w .1 .inv .near16)) (λ w. rw (w .3) (w .1 .inv .near16)) (c .if1 .came)
+
+told-requires-2 : tie.Need-told-requires-2 Inv-loop μ-loop Inv-loop2 μ-loop2
+told-requires-2 c κs = ⊎-elim (λ w. rw (w .4) (w .1 .inv .near17)) (λ w. rw (w .4) (w .1 .inv .near17)) (c .before .if1 .came)
+
 finish-requires : tie.Need-finish-requires Inv-loop μ-loop Inv-loop2 μ-loop2
 finish-requires c κs = omega arith
 
 returns : tie.Need-returns Inv-loop μ-loop Inv-loop2 μ-loop2
 returns c =
-    ⊎-elim (λ w. pass-end (w .1 .inv) (w .0 .taken) (w .2 .left) (w .3) (w .4) (w .6) (c .finish .ensures))
-    (λ w. pass-end (w .1 .inv) (w .0 .left) (w .2 .left) (w .3) (w .4) (w .6) (c .finish .ensures)) (c .before .before .if1 .came)
+    let a = c .before .before .before .told .ensures in
+    let b = c .before .before .told2 .ensures in
+    ⊎-elim (λ w. pass-end (w .1 .inv) (w .0 .taken) (w .2 .left) (w .3) (w .4) (w .6) a b (c .finish .ensures))
+    (λ w. pass-end (w .1 .inv) (w .0 .left) (w .2 .left) (w .3) (w .4) (w .6) a b (c .finish .ensures)) (c .before .before .before .before .if1 .came)
 
 pub judge-entries-spec : {M : Type 1} → statement M
 judge-entries-spec =
@@ -165,5 +173,7 @@ judge-entries-spec =
     loop2-again-2
     loop2-less-3
     loop2-again-3
+    told-requires
+    told-requires-2
     finish-requires
     returns)

@@ -1,17 +1,14 @@
-use borrow.Author.Needs.{needs}
+-- `cell_of` is the cell of a tag, which is one of 32. Assumes nothing.
 use native.Mathlib.Omega.{arith}
 use mathlib.Core.Path.{refl}
+use borrow.Author.Needs.{needs}
 use Rattle.layout.specs.Finding.{cellOf}
 use Rattle.layout.proofs.cell_of.Statement.{statement}
 use Rattle.layout.proofs.cell_of.Tie as tie
-use Rattle.layout.proofs.cell_of.Reads as reads
-use Rattle.layout.proofs.cell_of.Lts as lts
 
--- src/lib.rt:280:5
 mul-result : tie.Need-mul-result
 mul-result c = search needs
 
--- src/lib.rt:276:1
 returns : tie.Need-returns
 unfolding cellOf
 returns c = (refl, omega arith)

@@ -3,8 +3,6 @@ use borrow.Author.Tests.{lt-ltb, le-ltb, ne-eqb}
 use borrow.Author.Needs.{needs}
 use Rattle.layout.proofs.is_misplaced.Statement.{statement}
 use Rattle.layout.proofs.is_misplaced.Tie as tie
-use Rattle.layout.proofs.is_misplaced.Reads as reads
-use Rattle.layout.proofs.is_misplaced.Lts as lts
 
 returns : tie.Need-returns
 returns c = rw (c .if1 .taken)

@@ -1,16 +1,10 @@
--- `size_of` gives the definition's size of each type, arm by arm, and 0 for any other type. Assumes nothing.
-use Rattle.layout.proofs.Sizes.{narrow, size-first}
-use Rattle.paper.proofs.Bounds.{size-past}
-use Rattle.paper.specs.Layout.{sizeOf}
-use mathlib.Core.Path.{_≡_, refl, sym}
+-- `size_of` is the size of each type, arm by arm, and 0 for any other type. Assumes nothing.
+use mathlib.Core.Path.{refl}
 use lib.Dec.{lit≤}
-use native.Mathlib.Decide.{decLe}
-use native.Mathlib.Nat.{lt-of-not-le}
-use Prim.Native.Nat.{_≤_}
+use Rattle.paper.specs.Layout.{sizeOf}
+use Rattle.layout.proofs.Sizes.{size-other}
 use Rattle.layout.proofs.size_of.Statement.{statement}
 use Rattle.layout.proofs.size_of.Tie as tie
-use Rattle.layout.proofs.size_of.Reads as reads
-use Rattle.layout.proofs.size_of.Lts as lts
 
 returns : tie.Need-returns
 unfolding sizeOf
@@ -61,11 +55,7 @@ unfolding sizeOf
 returns-12 c = rw (c .match .keys12) (refl, lit≤ tt)
 
 returns-13 : tie.Need-returns-13
-returns-13 c = (go (decLe 13 (c .before .args .typ)), lit≤ tt)
-  where
-    go : Dec (13 ≤ c .before .args .typ) → 0 ≡ sizeOf (c .before .args .typ)
-    go (yes p) = sym (size-past (c .before .args .typ) p)
-    go (no q) = sym (size-first (c .before .args .typ) (narrow (c .before .args .typ) 1 (narrow (c .before .args .typ) 2 (narrow (c .before .args .typ) 3 (narrow (c .before .args .typ) 4 (narrow (c .before .args .typ) 5 (narrow (c .before .args .typ) 6 (narrow (c .before .args .typ) 7 (narrow (c .before .args .typ) 8 (narrow (c .before .args .typ) 9 (narrow (c .before .args .typ) 10 (narrow (c .before .args .typ) 11 (narrow (c .before .args .typ) 12 (lt-of-not-le q) (c .match .rest .1)) (c .match .rest .0 .1)) (c .match .rest .0 .0 .1)) (c .match .rest .0 .0 .0 .1)) (c .match .rest .0 .0 .0 .0 .1)) (c .match .rest .0 .0 .0 .0 .0 .1)) (c .match .rest .0 .0 .0 .0 .0 .0 .1)) (c .match .rest .0 .0 .0 .0 .0 .0 .0 .1)) (c .match .rest .0 .0 .0 .0 .0 .0 .0 .0 .1)) (c .match .rest .0 .0 .0 .0 .0 .0 .0 .0 .0 .1)) (c .match .rest .0 .0 .0 .0 .0 .0 .0 .0 .0 .0 .1)) (c .match .rest .0 .0 .0 .0 .0 .0 .0 .0 .0 .0 .0 .1)))
+returns-13 c = (search size-other, lit≤ tt)
 
 pub size-of-spec : {M : Type 1} → statement M
 size-of-spec =

@@ -1,14 +1,14 @@
--- `gap_of` takes the ranges from the last to the first: the gap is the one around the byte among those from j on. Assumes nothing.
+-- `gap_of` takes the parts from the last to the first: the gap is the one around the byte among those from j on. Assumes nothing.
 use borrow.Author.Needs.{needs}
 use native.Mathlib.Omega.{arith}
 use Prim.Native.Nat.{_≤_}
 use Rattle.pieces.proofs.Gaps.{Around}
-use Rattle.pieces.proofs.Answers.{rangesFrom, gap-start, gap-end, gap-turn, end-fits}
+use Rattle.pieces.proofs.Answers.{partsFrom, gap-start, gap-end, gap-turn, end-fits}
 use Rattle.pieces.proofs.gap_of.Statement.{statement}
 use Rattle.pieces.proofs.gap_of.Tie as tie
 
 abbrev Inv-loop : tie.InvT-loop
-Inv-loop starts lens m n byte lo₀ hi₀ j₀ lo hi j = (j ≤ m) × (Around byte n (rangesFrom starts lens m j) lo hi)
+Inv-loop starts lens m n byte lo₀ hi₀ j₀ lo hi j = (j ≤ m) × (Around byte n (partsFrom starts lens m j) lo hi)
 
 abbrev μ-loop : tie.MeasureT-loop
 μ-loop starts lens m n byte lo₀ hi₀ j₀ lo hi j = j

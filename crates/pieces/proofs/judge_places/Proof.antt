@@ -4,17 +4,17 @@ use borrow.Author.Needs.{needs}
 use native.Mathlib.Omega.{arith}
 use Prim.Native.Nat.{_-_, _≤_}
 use Rattle.order.specs.Width.{width}
-use Rattle.pieces.specs.Gaps.{rangesOf}
+use Rattle.pieces.specs.Gaps.{partsOf}
 use Rattle.pieces.proofs.Passing.{Going, going-start, going-end, stop-none, stop-bad, starts-low, stop-clash, stop-free}
 use Rattle.pieces.proofs.judge_places.Statement.{statement}
 use Rattle.pieces.proofs.judge_places.Tie as tie
 
 abbrev Inv-loop : tie.InvT-loop
-Inv-loop offsets wideoffsets counts widecounts big k n starts lens m lo₀ hi₀ i₀ lo hi i =
-    (i ≤ k) × Going big (width wideoffsets) offsets (width widecounts) counts k n (rangesOf starts lens m) i lo hi
+Inv-loop offsets wideoffsets bytecounts widebytecounts big k n starts lens m lo₀ hi₀ i₀ lo hi i =
+    (i ≤ k) × Going big (width wideoffsets) offsets (width widebytecounts) bytecounts k n (partsOf starts lens m) i lo hi
 
 abbrev μ-loop : tie.MeasureT-loop
-μ-loop offsets wideoffsets counts widecounts big k n starts lens m lo₀ hi₀ i₀ lo hi i = k - i
+μ-loop offsets wideoffsets bytecounts widebytecounts big k n starts lens m lo₀ hi₀ i₀ lo hi i = k - i
 
 loop-holds : tie.Need-loop-holds Inv-loop μ-loop
 loop-holds c = (omega arith, search (needs, going-start))
@@ -53,7 +53,7 @@ cast-after-clash c =
 after-clash-requires : tie.Need-after-clash-requires Inv-loop μ-loop
 after-clash-requires c κs =
     let p = c .before .before .before .before .before .before .before .before .before .before .before .before .before .before .before .before .before .before .before .pre in
-    (omega arith, p .0, p .1, p .2)
+    (omega arith, p .0, p .1, p .2, p .7, p .8)
 
 returns-3 : tie.Need-returns-3 Inv-loop μ-loop
 returns-3 c =

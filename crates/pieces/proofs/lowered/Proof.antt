@@ -1,4 +1,4 @@
--- `lowered`: a range behind the byte lowers the high end to its start. Assumes nothing.
+-- `lowered`: a part behind the byte lowers the high end to its start. Assumes nothing.
 use borrow.Author.Needs.{needs}
 use Rattle.pieces.proofs.Answers.{lower-in, lower-out}
 use Rattle.pieces.proofs.lowered.Statement.{statement}

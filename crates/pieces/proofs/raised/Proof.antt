@@ -1,4 +1,4 @@
--- `raised`: a range that starts at the byte or before raises the low end to its own. Assumes nothing.
+-- `raised`: a part that starts at the byte or before raises the low end to its own. Assumes nothing.
 use borrow.Author.Needs.{needs}
 use Rattle.pieces.proofs.Answers.{raise-in, raise-out}
 use Rattle.pieces.proofs.raised.Statement.{statement}

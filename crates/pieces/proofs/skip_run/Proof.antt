@@ -8,11 +8,11 @@ use Rattle.pieces.proofs.skip_run.Statement.{statement}
 use Rattle.pieces.proofs.skip_run.Tie as tie
 
 abbrev Inv-loop : tie.InvT-loop
-Inv-loop offsets wideoffsets counts widecounts big from k lo hi i₀ i =
-    (from ≤ i) × (i ≤ k) × Passed big (width wideoffsets) offsets (width widecounts) counts k lo hi from i
+Inv-loop offsets wideoffsets bytecounts widebytecounts big from k lo hi i₀ i =
+    (from ≤ i) × (i ≤ k) × Passed big (width wideoffsets) offsets (width widebytecounts) bytecounts k lo hi from i
 
 abbrev μ-loop : tie.MeasureT-loop
-μ-loop offsets wideoffsets counts widecounts big from k lo hi i₀ i = k - i
+μ-loop offsets wideoffsets bytecounts widebytecounts big from k lo hi i₀ i = k - i
 
 loop-holds : tie.Need-loop-holds Inv-loop μ-loop
 loop-holds c = (omega arith, omega arith, search (needs, passed-start))

@@ -117,15 +117,12 @@ module _ {M : Type 1} (𝓤 : URA M) (H : Heap 𝓤) (A : Atoms 𝓤) (W : Given
   abbrev Own₂ : Fml
   Own₂ = ShrSlice (named 0) κ′ u8 .own sr (s₂ ∷ [])
 
-  -- the answer with its plan, K, and their machine value
+  -- the answer with its plan, and K
   abbrev J : Planned
   J = plannedOf (now sr) (length ys)
 
   abbrev k : ℕ
   k = J .counted .keys
-
-  abbrev mach : Val
-  mach = S′.lowered J
 
   abbrev Post : Val → SProp 𝓤
   Post = walkOf 𝓤 H A key-rows.ended stayed (key-rows.clauses 𝓤 H A mem run) .post (((κ′, (κ, tt)), (q′, (q, tt)), tt, a, vals), tt)

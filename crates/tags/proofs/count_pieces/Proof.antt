@@ -1,7 +1,7 @@
 -- `count_pieces` is the number of strips, or the tiles across times the tiles down; no product of the two is too large. Assumes nothing.
-use Rattle.tags.proofs.Values.{product-fits}
-use Rattle.tags.specs.Numbers.{countOfPieces}
 use borrow.Author.Needs.{needs}
+use Rattle.tags.specs.Numbers.{countOfPieces}
+use Rattle.tags.proofs.Values.{product-fits}
 use Rattle.tags.proofs.count_pieces.Statement.{statement}
 use Rattle.tags.proofs.count_pieces.Tie as tie
 
@@ -12,7 +12,9 @@ rounded-up-requires-2 : tie.Need-rounded-up-requires-2
 rounded-up-requires-2 c κs = search needs
 
 mul-result : tie.Need-mul-result
-mul-result c = product-fits (c .before .rounded-up .ensures .1) ((c .before .before .before .pre) .width) (c .rounded-up2 .ensures .1) ((c .before .before .before .pre) .length)
+mul-result c =
+    let n = c .before .before .before .pre in
+    product-fits (c .before .rounded-up .ensures .1) (n .width) (c .rounded-up2 .ensures .1) (n .length)
 
 returns : tie.Need-returns
 unfolding countOfPieces

@@ -1,14 +1,53 @@
--- `fitting_lines` is rule 10 over the whole table. Assumes nothing.
-use mathlib.Core.Bool.{Bool}
-use mathlib.Core.Path.{refl, subst}
-use lib.Dec.{lit<}
-use Rattle.tags.proofs.Slots.{needed-at}
-use Rattle.paper.specs.Outcome.{firstBad}
-use Rattle.paper.specs.Tags.{table}
-use Rattle.tags.specs.Slots.{tenFrom, misfit, misfitAt, lineAt, tagAt, slots, Chosen}
+-- `fitting_lines` is rule 10 over the whole table: five lines, then those of the family. Assumes nothing.
+use Prim.Native.Nat.{ℕ}
+use mathlib.Core.Path.{refl}
 use borrow.Author.Needs.{needs}
+use Rattle.paper.specs.Tags.{table}
+use Rattle.tags.specs.Slots.{lineAt, tagAt}
+use Rattle.tags.proofs.Lines.{Fit, fit-none, fit-rest, there, chosen-in, unlike-next, unlike-stop}
 use Rattle.tags.proofs.fitting_lines.Statement.{statement}
 use Rattle.tags.proofs.fitting_lines.Tie as tie
+
+-- where the function starts, from behind each test
+abbrev start1 : tie.Else1 → tie.Start
+start1 c = c .before .before .before .before
+
+abbrev start2 : tie.Else2 → tie.Start
+start2 c = start1 (c .before .before .before .before)
+
+abbrev start3 : tie.Else3 → tie.Start
+start3 c = start2 (c .before .before .before .before)
+
+abbrev start4 : tie.Else4 → tie.Start
+start4 c = start3 (c .before .before .before .before)
+
+abbrev start5 : tie.Else5 → tie.Start
+start5 c = start4 (c .before .before .before .before)
+
+-- the lines before k are as they say
+abbrev Past : tie.Start → ℕ → Type 0
+Past s k = Fit (s .args .typs .now) (s .args .counts .now) (s .args .starts .now) 0 k
+
+-- what is known behind each test
+after1 : (c : tie.Else1) → Past (start1 c) 1
+unfolding lineAt table
+after1 c = unlike-next fit-none refl (there (start1 c .pre) 0 refl refl) (c .before .is-unlike .ensures) (c .if1 .left)
+
+after2 : (c : tie.Else2) → Past (start2 c) 2
+unfolding lineAt table
+after2 c = unlike-next (after1 (c .before .before .before .before)) refl (there (start2 c .pre) 1 refl refl) (c .before .is-unlike2 .ensures) (c .if2 .left)
+
+after3 : (c : tie.Else3) → Past (start3 c) 3
+unfolding lineAt table
+after3 c = unlike-next (after2 (c .before .before .before .before)) refl (there (start3 c .pre) 2 refl refl) (c .before .is-unlike3 .ensures) (c .if3 .left)
+
+after4 : (c : tie.Else4) → Past (start4 c) 4
+unfolding lineAt table
+after4 c = unlike-next (after3 (c .before .before .before .before)) refl (there (start4 c .pre) 3 refl refl) (c .before .is-unlike4 .ensures) (c .if4 .left)
+
+after5 : (c : tie.Else5) → Past (start5 c) 5
+unfolding lineAt table
+after5 c = unlike-next (after4 (c .before .before .before .before)) refl (there (start5 c .pre) 4 refl refl) (c .before .is-unlike5 .ensures) (c .if5 .left)
 
 element-copy-out-is-unlike : tie.Need-element-copy-out-is-unlike
 element-copy-out-is-unlike c = search needs
@@ -20,8 +59,10 @@ is-unlike-requires : tie.Need-is-unlike-requires
 is-unlike-requires c κs = search needs
 
 returns : tie.Need-returns
-unfolding tenFrom misfitAt misfit lineAt tagAt slots table firstBad
-returns c = rw (needed-at (c .before .before .before .before .args .tiled) (c .before .before .before .before .args .starts .now) ((c .before .before .before .before .pre) .nine) 0 (lit< tt) refl, ← c .before .is-unlike .ensures, c .if1 .taken)
+unfolding lineAt tagAt table
+returns c =
+    let b = c .before .before .before .before in
+    unlike-stop fit-none refl (there (b .pre) 0 refl refl) (c .before .is-unlike .ensures) (c .if1 .taken) refl
 
 element-copy-out-is-unlike-3 : tie.Need-element-copy-out-is-unlike-3
 element-copy-out-is-unlike-3 c = search needs
@@ -33,8 +74,10 @@ is-unlike-requires-2 : tie.Need-is-unlike-requires-2
 is-unlike-requires-2 c κs = search needs
 
 returns-2 : tie.Need-returns-2
-unfolding tenFrom misfitAt misfit lineAt tagAt slots table firstBad
-returns-2 c = rw (needed-at (c .before .before .before .before .before .before .before .before .args .tiled) (c .before .before .before .before .before .before .before .before .args .starts .now) ((c .before .before .before .before .before .before .before .before .pre) .nine) 0 (lit< tt) refl, ← c .before .before .before .before .before .is-unlike .ensures, c .before .before .before .before .if1 .left, needed-at (c .before .before .before .before .before .before .before .before .args .tiled) (c .before .before .before .before .before .before .before .before .args .starts .now) ((c .before .before .before .before .before .before .before .before .pre) .nine) 1 (lit< tt) refl, ← c .before .is-unlike2 .ensures, c .if2 .taken)
+unfolding lineAt tagAt table
+returns-2 c =
+    let b = c .before .before .before .before in
+    unlike-stop (after1 b) refl (there (start1 b .pre) 1 refl refl) (c .before .is-unlike2 .ensures) (c .if2 .taken) refl
 
 element-copy-out-is-unlike-5 : tie.Need-element-copy-out-is-unlike-5
 element-copy-out-is-unlike-5 c = search needs
@@ -46,8 +89,10 @@ is-unlike-requires-3 : tie.Need-is-unlike-requires-3
 is-unlike-requires-3 c κs = search needs
 
 returns-3 : tie.Need-returns-3
-unfolding tenFrom misfitAt misfit lineAt tagAt slots table firstBad
-returns-3 c = rw (needed-at (c .before .before .before .before .before .before .before .before .before .before .before .before .args .tiled) (c .before .before .before .before .before .before .before .before .before .before .before .before .args .starts .now) ((c .before .before .before .before .before .before .before .before .before .before .before .before .pre) .nine) 0 (lit< tt) refl, ← c .before .before .before .before .before .before .before .before .before .is-unlike .ensures, c .before .before .before .before .before .before .before .before .if1 .left, needed-at (c .before .before .before .before .before .before .before .before .before .before .before .before .args .tiled) (c .before .before .before .before .before .before .before .before .before .before .before .before .args .starts .now) ((c .before .before .before .before .before .before .before .before .before .before .before .before .pre) .nine) 1 (lit< tt) refl, ← c .before .before .before .before .before .is-unlike2 .ensures, c .before .before .before .before .if2 .left, needed-at (c .before .before .before .before .before .before .before .before .before .before .before .before .args .tiled) (c .before .before .before .before .before .before .before .before .before .before .before .before .args .starts .now) ((c .before .before .before .before .before .before .before .before .before .before .before .before .pre) .nine) 2 (lit< tt) refl, ← c .before .is-unlike3 .ensures, c .if3 .taken)
+unfolding lineAt tagAt table
+returns-3 c =
+    let b = c .before .before .before .before in
+    unlike-stop (after2 b) refl (there (start2 b .pre) 2 refl refl) (c .before .is-unlike3 .ensures) (c .if3 .taken) refl
 
 element-copy-out-is-unlike-7 : tie.Need-element-copy-out-is-unlike-7
 element-copy-out-is-unlike-7 c = search needs
@@ -59,8 +104,10 @@ is-unlike-requires-4 : tie.Need-is-unlike-requires-4
 is-unlike-requires-4 c κs = search needs
 
 returns-4 : tie.Need-returns-4
-unfolding tenFrom misfitAt misfit lineAt tagAt slots table firstBad
-returns-4 c = rw (needed-at (c .before .before .before .before .before .before .before .before .before .before .before .before .before .before .before .before .args .tiled) (c .before .before .before .before .before .before .before .before .before .before .before .before .before .before .before .before .args .starts .now) ((c .before .before .before .before .before .before .before .before .before .before .before .before .before .before .before .before .pre) .nine) 0 (lit< tt) refl, ← c .before .before .before .before .before .before .before .before .before .before .before .before .before .is-unlike .ensures, c .before .before .before .before .before .before .before .before .before .before .before .before .if1 .left, needed-at (c .before .before .before .before .before .before .before .before .before .before .before .before .before .before .before .before .args .tiled) (c .before .before .before .before .before .before .before .before .before .before .before .before .before .before .before .before .args .starts .now) ((c .before .before .before .before .before .before .before .before .before .before .before .before .before .before .before .before .pre) .nine) 1 (lit< tt) refl, ← c .before .before .before .before .before .before .before .before .before .is-unlike2 .ensures, c .before .before .before .before .before .before .before .before .if2 .left, needed-at (c .before .before .before .before .before .before .before .before .before .before .before .before .before .before .before .before .args .tiled) (c .before .before .before .before .before .before .before .before .before .before .before .before .before .before .before .before .args .starts .now) ((c .before .before .before .before .before .before .before .before .before .before .before .before .before .before .before .before .pre) .nine) 2 (lit< tt) refl, ← c .before .before .before .before .before .is-unlike3 .ensures, c .before .before .before .before .if3 .left, needed-at (c .before .before .before .before .before .before .before .before .before .before .before .before .before .before .before .before .args .tiled) (c .before .before .before .before .before .before .before .before .before .before .before .before .before .before .before .before .args .starts .now) ((c .before .before .before .before .before .before .before .before .before .before .before .before .before .before .before .before .pre) .nine) 3 (lit< tt) refl, ← c .before .is-unlike4 .ensures, c .if4 .taken)
+unfolding lineAt tagAt table
+returns-4 c =
+    let b = c .before .before .before .before in
+    unlike-stop (after3 b) refl (there (start3 b .pre) 3 refl refl) (c .before .is-unlike4 .ensures) (c .if4 .taken) refl
 
 element-copy-out-is-unlike-9 : tie.Need-element-copy-out-is-unlike-9
 element-copy-out-is-unlike-9 c = search needs
@@ -72,22 +119,22 @@ is-unlike-requires-5 : tie.Need-is-unlike-requires-5
 is-unlike-requires-5 c κs = search needs
 
 returns-5 : tie.Need-returns-5
-unfolding tenFrom misfitAt misfit lineAt tagAt slots table firstBad
-returns-5 c = rw (needed-at (c .before .before .before .before .before .before .before .before .before .before .before .before .before .before .before .before .before .before .before .before .args .tiled) (c .before .before .before .before .before .before .before .before .before .before .before .before .before .before .before .before .before .before .before .before .args .starts .now) ((c .before .before .before .before .before .before .before .before .before .before .before .before .before .before .before .before .before .before .before .before .pre) .nine) 0 (lit< tt) refl, ← c .before .before .before .before .before .before .before .before .before .before .before .before .before .before .before .before .before .is-unlike .ensures, c .before .before .before .before .before .before .before .before .before .before .before .before .before .before .before .before .if1 .left, needed-at (c .before .before .before .before .before .before .before .before .before .before .before .before .before .before .before .before .before .before .before .before .args .tiled) (c .before .before .before .before .before .before .before .before .before .before .before .before .before .before .before .before .before .before .before .before .args .starts .now) ((c .before .before .before .before .before .before .before .before .before .before .before .before .before .before .before .before .before .before .before .before .pre) .nine) 1 (lit< tt) refl, ← c .before .before .before .before .before .before .before .before .before .before .before .before .before .is-unlike2 .ensures, c .before .before .before .before .before .before .before .before .before .before .before .before .if2 .left, needed-at (c .before .before .before .before .before .before .before .before .before .before .before .before .before .before .before .before .before .before .before .before .args .tiled) (c .before .before .before .before .before .before .before .before .before .before .before .before .before .before .before .before .before .before .before .before .args .starts .now) ((c .before .before .before .before .before .before .before .before .before .before .before .before .before .before .before .before .before .before .before .before .pre) .nine) 2 (lit< tt) refl, ← c .before .before .before .before .before .before .before .before .before .is-unlike3 .ensures, c .before .before .before .before .before .before .before .before .if3 .left, needed-at (c .before .before .before .before .before .before .before .before .before .before .before .before .before .before .before .before .before .before .before .before .args .tiled) (c .before .before .before .before .before .before .before .before .before .before .before .before .before .before .before .before .before .before .before .before .args .starts .now) ((c .before .before .before .before .before .before .before .before .before .before .before .before .before .before .before .before .before .before .before .before .pre) .nine) 3 (lit< tt) refl, ← c .before .before .before .before .before .is-unlike4 .ensures, c .before .before .before .before .if4 .left, needed-at (c .before .before .before .before .before .before .before .before .before .before .before .before .before .before .before .before .before .before .before .before .args .tiled) (c .before .before .before .before .before .before .before .before .before .before .before .before .before .before .before .before .before .before .before .before .args .starts .now) ((c .before .before .before .before .before .before .before .before .before .before .before .before .before .before .before .before .before .before .before .before .pre) .nine) 4 (lit< tt) refl, ← c .before .is-unlike5 .ensures, c .if5 .taken)
+unfolding lineAt tagAt table
+returns-5 c =
+    let b = c .before .before .before .before in
+    unlike-stop (after4 b) refl (there (start4 b .pre) 4 refl refl) (c .before .is-unlike5 .ensures) (c .if5 .taken) refl
 
 tile-lines-requires : tie.Need-tile-lines-requires
-tile-lines-requires c κs = subst (λ (t : Bool). Chosen t (c .before .before .before .before .before .before .before .before .before .before .before .before .before .before .before .before .before .before .before .before .before .args .starts .now)) (c .if6 .taken) (c .before .before .before .before .before .before .before .before .before .before .before .before .before .before .before .before .before .before .before .before .before .pre)
+tile-lines-requires c κs = chosen-in (c .if6 .taken) (start5 (c .before) .pre)
 
 returns-6 : tie.Need-returns-6
-unfolding tenFrom misfitAt misfit lineAt tagAt slots table firstBad
-returns-6 c = rw (needed-at (c .before .before .before .before .before .before .before .before .before .before .before .before .before .before .before .before .before .before .before .before .before .before .args .tiled) (c .before .before .before .before .before .before .before .before .before .before .before .before .before .before .before .before .before .before .before .before .before .before .args .starts .now) ((c .before .before .before .before .before .before .before .before .before .before .before .before .before .before .before .before .before .before .before .before .before .before .pre) .nine) 0 (lit< tt) refl, ← c .before .before .before .before .before .before .before .before .before .before .before .before .before .before .before .before .before .before .before .is-unlike .ensures, c .before .before .before .before .before .before .before .before .before .before .before .before .before .before .before .before .before .before .if1 .left, needed-at (c .before .before .before .before .before .before .before .before .before .before .before .before .before .before .before .before .before .before .before .before .before .before .args .tiled) (c .before .before .before .before .before .before .before .before .before .before .before .before .before .before .before .before .before .before .before .before .before .before .args .starts .now) ((c .before .before .before .before .before .before .before .before .before .before .before .before .before .before .before .before .before .before .before .before .before .before .pre) .nine) 1 (lit< tt) refl, ← c .before .before .before .before .before .before .before .before .before .before .before .before .before .before .before .is-unlike2 .ensures, c .before .before .before .before .before .before .before .before .before .before .before .before .before .before .if2 .left, needed-at (c .before .before .before .before .before .before .before .before .before .before .before .before .before .before .before .before .before .before .before .before .before .before .args .tiled) (c .before .before .before .before .before .before .before .before .before .before .before .before .before .before .before .before .before .before .before .before .before .before .args .starts .now) ((c .before .before .before .before .before .before .before .before .before .before .before .before .before .before .before .before .before .before .before .before .before .before .pre) .nine) 2 (lit< tt) refl, ← c .before .before .before .before .before .before .before .before .before .before .before .is-unlike3 .ensures, c .before .before .before .before .before .before .before .before .before .before .if3 .left, needed-at (c .before .before .before .before .before .before .before .before .before .before .before .before .before .before .before .before .before .before .before .before .before .before .args .tiled) (c .before .before .before .before .before .before .before .before .before .before .before .before .before .before .before .before .before .before .before .before .before .before .args .starts .now) ((c .before .before .before .before .before .before .before .before .before .before .before .before .before .before .before .before .before .before .before .before .before .before .pre) .nine) 3 (lit< tt) refl, ← c .before .before .before .before .before .before .before .is-unlike4 .ensures, c .before .before .before .before .before .before .if4 .left, needed-at (c .before .before .before .before .before .before .before .before .before .before .before .before .before .before .before .before .before .before .before .before .before .before .args .tiled) (c .before .before .before .before .before .before .before .before .before .before .before .before .before .before .before .before .before .before .before .before .before .before .args .starts .now) ((c .before .before .before .before .before .before .before .before .before .before .before .before .before .before .before .before .before .before .before .before .before .before .pre) .nine) 4 (lit< tt) refl, ← c .before .before .before .is-unlike5 .ensures, c .before .before .if5 .left) (c .tile-lines .ensures)
+returns-6 c = fit-rest (after5 (c .before .before)) (c .tile-lines .ensures)
 
 strip-lines-requires : tie.Need-strip-lines-requires
-strip-lines-requires c κs = subst (λ (t : Bool). Chosen t (c .before .before .before .before .before .before .before .before .before .before .before .before .before .before .before .before .before .before .before .before .before .args .starts .now)) (c .if6 .left) (c .before .before .before .before .before .before .before .before .before .before .before .before .before .before .before .before .before .before .before .before .before .pre)
+strip-lines-requires c κs = chosen-in (c .if6 .left) (start5 (c .before) .pre)
 
 returns-7 : tie.Need-returns-7
-unfolding tenFrom misfitAt misfit lineAt tagAt slots table firstBad
-returns-7 c = rw (needed-at (c .before .before .before .before .before .before .before .before .before .before .before .before .before .before .before .before .before .before .before .before .before .before .args .tiled) (c .before .before .before .before .before .before .before .before .before .before .before .before .before .before .before .before .before .before .before .before .before .before .args .starts .now) ((c .before .before .before .before .before .before .before .before .before .before .before .before .before .before .before .before .before .before .before .before .before .before .pre) .nine) 0 (lit< tt) refl, ← c .before .before .before .before .before .before .before .before .before .before .before .before .before .before .before .before .before .before .before .is-unlike .ensures, c .before .before .before .before .before .before .before .before .before .before .before .before .before .before .before .before .before .before .if1 .left, needed-at (c .before .before .before .before .before .before .before .before .before .before .before .before .before .before .before .before .before .before .before .before .before .before .args .tiled) (c .before .before .before .before .before .before .before .before .before .before .before .before .before .before .before .before .before .before .before .before .before .before .args .starts .now) ((c .before .before .before .before .before .before .before .before .before .before .before .before .before .before .before .before .before .before .before .before .before .before .pre) .nine) 1 (lit< tt) refl, ← c .before .before .before .before .before .before .before .before .before .before .before .before .before .before .before .is-unlike2 .ensures, c .before .before .before .before .before .before .before .before .before .before .before .before .before .before .if2 .left, needed-at (c .before .before .before .before .before .before .before .before .before .before .before .before .before .before .before .before .before .before .before .before .before .before .args .tiled) (c .before .before .before .before .before .before .before .before .before .before .before .before .before .before .before .before .before .before .before .before .before .before .args .starts .now) ((c .before .before .before .before .before .before .before .before .before .before .before .before .before .before .before .before .before .before .before .before .before .before .pre) .nine) 2 (lit< tt) refl, ← c .before .before .before .before .before .before .before .before .before .before .before .is-unlike3 .ensures, c .before .before .before .before .before .before .before .before .before .before .if3 .left, needed-at (c .before .before .before .before .before .before .before .before .before .before .before .before .before .before .before .before .before .before .before .before .before .before .args .tiled) (c .before .before .before .before .before .before .before .before .before .before .before .before .before .before .before .before .before .before .before .before .before .before .args .starts .now) ((c .before .before .before .before .before .before .before .before .before .before .before .before .before .before .before .before .before .before .before .before .before .before .pre) .nine) 3 (lit< tt) refl, ← c .before .before .before .before .before .before .before .is-unlike4 .ensures, c .before .before .before .before .before .before .if4 .left, needed-at (c .before .before .before .before .before .before .before .before .before .before .before .before .before .before .before .before .before .before .before .before .before .before .args .tiled) (c .before .before .before .before .before .before .before .before .before .before .before .before .before .before .before .before .before .before .before .before .before .before .args .starts .now) ((c .before .before .before .before .before .before .before .before .before .before .before .before .before .before .before .before .before .before .before .before .before .before .pre) .nine) 4 (lit< tt) refl, ← c .before .before .before .is-unlike5 .ensures, c .before .before .if5 .left) (c .strip-lines .ensures)
+returns-7 c = fit-rest (after5 (c .before .before)) (c .strip-lines .ensures)
 
 pub fitting-lines-spec : {M : Type 1} → statement M
 fitting-lines-spec =

@@ -1,8 +1,8 @@
 -- `has_strips` looks at the starts of the three tags of strips. Assumes nothing.
 use mathlib.Core.Bool.{or-false}
+use borrow.Author.Needs.{needs}
 use Rattle.paper.specs.Tests.{some}
 use Rattle.tags.specs.Slots.{someAt}
-use borrow.Author.Needs.{needs}
 use Rattle.tags.proofs.has_strips.Statement.{statement}
 use Rattle.tags.proofs.has_strips.Tie as tie
 

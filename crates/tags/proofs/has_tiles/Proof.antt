@@ -1,8 +1,8 @@
 -- `has_tiles` looks at the starts of the four tags of tiles. Assumes nothing.
 use mathlib.Core.Bool.{or-false}
+use borrow.Author.Needs.{needs}
 use Rattle.paper.specs.Tests.{some}
 use Rattle.tags.specs.Slots.{someAt}
-use borrow.Author.Needs.{needs}
 use Rattle.tags.proofs.has_tiles.Statement.{statement}
 use Rattle.tags.proofs.has_tiles.Tie as tie
 

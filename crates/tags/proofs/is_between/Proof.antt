@@ -1,7 +1,7 @@
 -- `is_between` says whether a value lies in a range. Assumes nothing.
-use Rattle.paper.specs.Tests.{some, allows}
 use mathlib.Core.Bool.{or-false}
 use mathlib.Core.Path.{sym}
+use Rattle.paper.specs.Tests.{some, allows}
 use Rattle.tags.proofs.is_between.Statement.{statement}
 use Rattle.tags.proofs.is_between.Tie as tie
 

@@ -1,6 +1,6 @@
 -- `is_coding` says whether a compression is allowed. Assumes nothing.
-use Rattle.tags.proofs.Values.{one-of}
 use mathlib.Core.List.{[], _∷_}
+use Rattle.tags.proofs.Values.{one-of}
 use Rattle.tags.proofs.is_coding.Statement.{statement}
 use Rattle.tags.proofs.is_coding.Tie as tie
 

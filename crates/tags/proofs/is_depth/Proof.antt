@@ -1,6 +1,6 @@
 -- `is_depth` says whether a value of 258 is allowed. Assumes nothing.
-use Rattle.tags.proofs.Values.{one-of}
 use mathlib.Core.List.{[], _∷_}
+use Rattle.tags.proofs.Values.{one-of}
 use Rattle.tags.proofs.is_depth.Statement.{statement}
 use Rattle.tags.proofs.is_depth.Tie as tie
 

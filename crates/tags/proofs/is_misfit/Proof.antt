@@ -1,8 +1,7 @@
 -- `is_misfit` tests a tag that may be absent. Assumes nothing.
+use borrow.Author.Needs.{needs}
 use borrow.Author.Tests.{ne-eqb, eq-eqb}
 use Rattle.tags.specs.Slots.{misfit}
--- `is_misfit` tests a tag that may be absent. Assumes nothing.
-use borrow.Author.Needs.{needs}
 use Rattle.tags.proofs.is_misfit.Statement.{statement}
 use Rattle.tags.proofs.is_misfit.Tie as tie
 

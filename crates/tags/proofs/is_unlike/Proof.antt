@@ -1,7 +1,6 @@
 -- `is_unlike` tests a type and a count against a line. Assumes nothing.
 use mathlib.Core.Path.{refl}
 use Rattle.tags.specs.Slots.{unlike}
--- `is_unlike` tests a type and a count against a line. Assumes nothing.
 use Rattle.tags.proofs.is_unlike.Statement.{statement}
 use Rattle.tags.proofs.is_unlike.Tie as tie
 

@@ -1,16 +1,13 @@
--- `judge_values` is rules 11 and 12 where 27, 9 and 10 are kept: the values are fetched as the paper has them (`Answers`). Assumes nothing.
-use mathlib.Core.Path.{ap}
+-- `judge_values` is rules 11 and 12 where 27, 9 and 10 are kept: the values are fetched as the paper has them (`Fetched`). Assumes nothing.
 use native.Mathlib.Omega.{arith}
-use Prim.Native.Nat.{ℕ}
-use lib.ListN.{getD}
-use native.Mathlib.Nat.{add-sub-cancel-left}
-use Rattle.tags.proofs.Answers.{readable, untiled, bits-some, bits-end, bits-room, refused-eleven, countable, refused-twelve, accepted}
 use borrow.Author.Needs.{needs}
+use Rattle.tags.proofs.Fetched.{readable, untiled, bits-some, bits-end, bits-room}
+use Rattle.tags.proofs.Answers.{refused-eleven, countable, refused-twelve, accepted}
 use Rattle.tags.proofs.judge_values.Statement.{statement}
 use Rattle.tags.proofs.judge_values.Tie as tie
 
 read-numbers-requires : tie.Need-read-numbers-requires
-read-numbers-requires c κs = readable (c .before .args .file .now) (c .before .args .big) (c .before .args .at) (c .before .args .c) (c .before .args .tiled) (c .before .args .typs .now) (c .before .args .counts .now) (c .before .args .starts .now) (c .before .args .lens .now) (c .before .pre)
+read-numbers-requires c κs = readable (c .before .pre)
 
 element-copy-out-start : tie.Need-element-copy-out-start
 element-copy-out-start c = search needs
@@ -19,7 +16,7 @@ element-copy-out-end : tie.Need-element-copy-out-end
 element-copy-out-end c = search needs
 
 add-end : tie.Need-add-end
-add-end c = omega (arith, bits-end (c .before .before .before .before .args .file .now) (c .before .before .before .before .args .big) (c .before .before .before .before .args .at) (c .before .before .before .before .args .c) (c .before .before .before .before .args .tiled) (c .before .before .before .before .args .typs .now) (c .before .before .before .before .args .counts .now) (c .before .before .before .before .args .starts .now) (c .before .before .before .before .args .lens .now) (c .before .before .before .before .pre), (c .before .before .before .before .pre) .ready .size)
+add-end c = let w = c .before .before .before .before .pre in omega (arith, bits-end w, w .ready .size)
 
 sub-read-bits : tie.Need-sub-read-bits
 sub-read-bits c = search needs
@@ -28,16 +25,16 @@ part-read-bits-start : tie.Need-part-read-bits-start
 part-read-bits-start c = search needs
 
 part-read-bits-end : tie.Need-part-read-bits-end
-part-read-bits-end c = bits-end (c .before .before .before .before .args .file .now) (c .before .before .before .before .args .big) (c .before .before .before .before .args .at) (c .before .before .before .before .args .c) (c .before .before .before .before .args .tiled) (c .before .before .before .before .args .typs .now) (c .before .before .before .before .args .counts .now) (c .before .before .before .before .args .starts .now) (c .before .before .before .before .args .lens .now) (c .before .before .before .before .pre)
+part-read-bits-end c = bits-end (c .before .before .before .before .pre)
 
 element-copy-out-read-bits : tie.Need-element-copy-out-read-bits
 element-copy-out-read-bits c = search needs
 
 read-bits-requires : tie.Need-read-bits-requires
-read-bits-requires c κs = (bits-some (c .before .before .before .before .before .before .args .file .now) (c .before .before .before .before .before .before .args .big) (c .before .before .before .before .before .before .args .at) (c .before .before .before .before .before .before .args .c) (c .before .before .before .before .before .before .args .tiled) (c .before .before .before .before .before .before .args .typs .now) (c .before .before .before .before .before .before .args .counts .now) (c .before .before .before .before .before .before .args .starts .now) (c .before .before .before .before .before .before .args .lens .now) (c .before .before .before .before .before .before .pre), rw (add-sub-cancel-left (getD (c .before .before .before .before .before .before .args .starts .now) 2 0) (getD (c .before .before .before .before .before .before .args .lens .now) 2 0)) (bits-room (c .before .before .before .before .before .before .args .file .now) (c .before .before .before .before .before .before .args .big) (c .before .before .before .before .before .before .args .at) (c .before .before .before .before .before .before .args .c) (c .before .before .before .before .before .before .args .tiled) (c .before .before .before .before .before .before .args .typs .now) (c .before .before .before .before .before .before .args .counts .now) (c .before .before .before .before .before .before .args .starts .now) (c .before .before .before .before .before .before .args .lens .now) (c .before .before .before .before .before .before .pre)))
+read-bits-requires c κs = let w = c .before .before .before .before .before .before .pre in (bits-some w, bits-room w)
 
 allowed-values-requires : tie.Need-allowed-values-requires
-allowed-values-requires c κs = untiled _ _ _ _ _ _ (c .before .before .before .before .before .read-numbers .ensures .0)
+allowed-values-requires c κs = search untiled
 
 enum-known-eleven : tie.Need-enum-known-eleven
 enum-known-eleven c = search needs
@@ -46,7 +43,7 @@ refused-requires : tie.Need-refused-requires
 refused-requires c κs = search needs
 
 returns : tie.Need-returns
-returns c = refused-eleven _ _ _ _ _ _ _ _ _ (c .before .before .before .before .before .before .before .before .before .before .before .before .pre) _ _ (c .before .before .before .before .before .before .before .before .before .before .read-numbers .ensures .0) (c .before .before .before .before .before .before .before .before .before .before .read-numbers .ensures .1) (c .before .before .before .before .before .read-bits .ensures) _ (c .before .before .before .before .allowed-values .ensures) _ _ (c .before .before .eleven .given .1) (c .refused .ensures)
+returns c = search refused-eleven
 
 enum-told : tie.Need-enum-told
 enum-told c = search needs
@@ -60,20 +57,24 @@ mul-offsets c = search needs
 element-copy-out-offsets : tie.Need-element-copy-out-offsets
 element-copy-out-offsets c = search needs
 
-sizes-slot-requires : tie.Need-sizes-slot-requires
-sizes-slot-requires c κs = search needs
+byte-counts-slot-requires : tie.Need-byte-counts-slot-requires
+byte-counts-slot-requires c κs = search needs
 
-mul-sizes : tie.Need-mul-sizes
-mul-sizes c = search needs
+mul-bytecounts : tie.Need-mul-bytecounts
+mul-bytecounts c = search needs
 
-element-copy-out-sizes : tie.Need-element-copy-out-sizes
-element-copy-out-sizes c = search needs
+element-copy-out-bytecounts : tie.Need-element-copy-out-bytecounts
+element-copy-out-bytecounts c = search needs
 
 element-copy-out-agreeing-tags : tie.Need-element-copy-out-agreeing-tags
 element-copy-out-agreeing-tags c = search needs
 
 agreeing-tags-requires : tie.Need-agreeing-tags-requires
-agreeing-tags-requires c κs = countable _ _ _ _ _ _ _ _ _ (c .before .before .before .before .before .before .before .before .before .before .before .before .before .before .before .pre) _ _ (c .before .before .before .before .before .before .before .before .before .before .before .before .before .read-numbers .ensures .0) (c .before .before .before .before .before .before .before .before .before .before .before .before .before .read-numbers .ensures .1) (c .before .before .before .before .before .before .before .before .read-bits .ensures) _ (c .before .before .before .before .before .before .before .allowed-values .ensures) (c .before .before .before .before .before .enum-told .given .1)
+agreeing-tags-requires c κs =
+    let b = c .before .before .before .before .before .before .before in
+    let n = b .before .before .before .before .before .before in
+    countable (n .before .before .pre) (n .read-numbers .ensures .0) (n .read-numbers .ensures .1) (b .before .read-bits .ensures) (b .allowed-values .ensures)
+    (c .before .before .before .before .before .enum-told .given .1)
 
 enum-known-twelve : tie.Need-enum-known-twelve
 enum-known-twelve c = search needs
@@ -82,7 +83,7 @@ refused-requires-2 : tie.Need-refused-requires-2
 refused-requires-2 c κs = search needs
 
 returns-2 : tie.Need-returns-2
-returns-2 c = refused-twelve _ _ _ _ _ _ _ _ _ (c .before .before .before .before .before .before .before .before .before .before .before .before .before .before .before .before .before .before .before .before .pre) _ _ (c .before .before .before .before .before .before .before .before .before .before .before .before .before .before .before .before .before .before .read-numbers .ensures .0) (c .before .before .before .before .before .before .before .before .before .before .before .before .before .before .before .before .before .before .read-numbers .ensures .1) (c .before .before .before .before .before .before .before .before .before .before .before .before .before .read-bits .ensures) _ (c .before .before .before .before .before .before .before .before .before .before .before .before .allowed-values .ensures) (c .before .before .before .before .before .before .before .before .before .before .enum-told .given .1) _ _ (ap (λ (k : ℕ). getD (c .before .before .before .before .before .before .before .before .before .before .before .before .before .before .before .before .before .before .before .before .args .counts .now) k 0) (c .before .before .before .before .before .before .before .before .before .offsets-slot .ensures .0)) (ap (λ (k : ℕ). getD (c .before .before .before .before .before .before .before .before .before .before .before .before .before .before .before .before .before .before .before .before .args .counts .now) k 0) (c .before .before .before .before .before .before .before .sizes-slot .ensures .0)) _ (c .before .before .before .before .agreeing-tags .ensures) _ _ (c .before .before .twelve .given .1) (c .refused2 .ensures)
+returns-2 c = search refused-twelve
 
 enum-told-2 : tie.Need-enum-told-2
 enum-told-2 c = search needs
@@ -91,10 +92,18 @@ cast-t39 : tie.Need-cast-t39
 cast-t39 c = search needs
 
 cast-t40 : tie.Need-cast-t40
-cast-t40 c = omega (arith, (c .before .before .before .before .before .before .before .before .before .before .before .before .before .before .before .before .before .before .read-numbers .ensures .1) .length)
+cast-t40 c =
+    let b = c .before .before .before .before .before .before .before .before .before .before .before .before .before .before .before .before .before .before in
+    omega (arith, b .read-numbers .ensures .1 .length)
 
 returns-3 : tie.Need-returns-3
-returns-3 c = accepted _ _ _ _ _ _ _ _ _ (c .before .before .before .before .before .before .before .before .before .before .before .before .before .before .before .before .before .before .before .before .pre) _ _ (c .before .before .before .before .before .before .before .before .before .before .before .before .before .before .before .before .before .before .read-numbers .ensures .0) (c .before .before .before .before .before .before .before .before .before .before .before .before .before .before .before .before .before .before .read-numbers .ensures .1) (c .before .before .before .before .before .before .before .before .before .before .before .before .before .read-bits .ensures) _ (c .before .before .before .before .before .before .before .before .before .before .before .before .allowed-values .ensures) (c .before .before .before .before .before .before .before .before .before .before .enum-told .given .1) _ _ (ap (λ (k : ℕ). getD (c .before .before .before .before .before .before .before .before .before .before .before .before .before .before .before .before .before .before .before .before .args .counts .now) k 0) (c .before .before .before .before .before .before .before .before .before .offsets-slot .ensures .0)) (ap (λ (k : ℕ). getD (c .before .before .before .before .before .before .before .before .before .before .before .before .before .before .before .before .before .before .before .before .args .counts .now) k 0) (c .before .before .before .before .before .before .before .sizes-slot .ensures .0)) _ (c .before .before .before .before .agreeing-tags .ensures) (c .before .before .enum-told2 .given .1)
+returns-3 c =
+    let d = c .before .before .before .before .before .before .before in
+    let b = d .before .before .before .before .before in
+    let n = b .before .before .before .before .before .before in
+    accepted (n .before .before .pre) (n .read-numbers .ensures .0) (n .read-numbers .ensures .1) (b .before .read-bits .ensures) (b .allowed-values .ensures)
+    (d .before .before .before .enum-told .given .1) (d .before .before .offsets-slot .ensures .0)
+    (d .byte-counts-slot .ensures .0) (c .before .before .before .before .agreeing-tags .ensures) (c .before .before .enum-told2 .given .1)
 
 pub judge-values-spec : {M : Type 1} → statement M
 judge-values-spec =
@@ -117,9 +126,9 @@ judge-values-spec =
     offsets-slot-requires
     mul-offsets
     element-copy-out-offsets
-    sizes-slot-requires
-    mul-sizes
-    element-copy-out-sizes
+    byte-counts-slot-requires
+    mul-bytecounts
+    element-copy-out-bytecounts
     element-copy-out-agreeing-tags
     agreeing-tags-requires
     enum-known-twelve

@@ -1,9 +1,9 @@
--- `needed_tags` is rule 9 over the starts: five tests in the order of the table, then those of the family. Assumes nothing.
-use borrow.Author.Tests.{ne-eqb, eq-eqb}
-use Rattle.paper.specs.Outcome.{firstBad}
-use Rattle.paper.specs.Tags.{table}
-use Rattle.tags.specs.Slots.{nineFrom, lacksAt, lineAt, tagAt, slots}
+-- `needed_tags` is rule 9 over the starts: five tests in the order of the table, then those of the family.
+-- Each return is found line by line from the laws of `Lines`. Assumes nothing.
 use borrow.Author.Needs.{needs}
+use Rattle.paper.specs.Tags.{table}
+use Rattle.tags.specs.Slots.{lineAt, tagAt}
+use Rattle.tags.proofs.Lines.{nine}
 use Rattle.tags.proofs.needed_tags.Statement.{statement}
 use Rattle.tags.proofs.needed_tags.Tie as tie
 
@@ -11,50 +11,50 @@ element-copy-out-if1 : tie.Need-element-copy-out-if1
 element-copy-out-if1 c = search needs
 
 returns : tie.Need-returns
-unfolding nineFrom lacksAt lineAt tagAt slots table firstBad
-returns c = rw (eq-eqb _ _ (c .if1 .taken))
+unfolding lineAt tagAt table
+returns c = search nine
 
 element-copy-out-if2 : tie.Need-element-copy-out-if2
 element-copy-out-if2 c = search needs
 
 returns-2 : tie.Need-returns-2
-unfolding nineFrom lacksAt lineAt tagAt slots table firstBad
-returns-2 c = rw (ne-eqb _ _ (c .before .before .if1 .left), eq-eqb _ _ (c .if2 .taken))
+unfolding lineAt tagAt table
+returns-2 c = search nine
 
 element-copy-out-if3 : tie.Need-element-copy-out-if3
 element-copy-out-if3 c = search needs
 
 returns-3 : tie.Need-returns-3
-unfolding nineFrom lacksAt lineAt tagAt slots table firstBad
-returns-3 c = rw (ne-eqb _ _ (c .before .before .before .before .if1 .left), ne-eqb _ _ (c .before .before .if2 .left), eq-eqb _ _ (c .if3 .taken))
+unfolding lineAt tagAt table
+returns-3 c = search nine
 
 element-copy-out-if4 : tie.Need-element-copy-out-if4
 element-copy-out-if4 c = search needs
 
 returns-4 : tie.Need-returns-4
-unfolding nineFrom lacksAt lineAt tagAt slots table firstBad
-returns-4 c = rw (ne-eqb _ _ (c .before .before .before .before .before .before .if1 .left), ne-eqb _ _ (c .before .before .before .before .if2 .left), ne-eqb _ _ (c .before .before .if3 .left), eq-eqb _ _ (c .if4 .taken))
+unfolding lineAt tagAt table
+returns-4 c = search nine
 
 element-copy-out-if5 : tie.Need-element-copy-out-if5
 element-copy-out-if5 c = search needs
 
 returns-5 : tie.Need-returns-5
-unfolding nineFrom lacksAt lineAt tagAt slots table firstBad
-returns-5 c = rw (ne-eqb _ _ (c .before .before .before .before .before .before .before .before .if1 .left), ne-eqb _ _ (c .before .before .before .before .before .before .if2 .left), ne-eqb _ _ (c .before .before .before .before .if3 .left), ne-eqb _ _ (c .before .before .if4 .left), eq-eqb _ _ (c .if5 .taken))
+unfolding lineAt tagAt table
+returns-5 c = search nine depth 6
 
 needed-tiles-requires : tie.Need-needed-tiles-requires
 needed-tiles-requires c κs = search needs
 
 returns-6 : tie.Need-returns-6
-unfolding nineFrom lacksAt lineAt tagAt slots table firstBad
-returns-6 c = rw (ne-eqb _ _ (c .before .before .before .before .before .before .before .before .before .before .if1 .left), ne-eqb _ _ (c .before .before .before .before .before .before .before .before .if2 .left), ne-eqb _ _ (c .before .before .before .before .before .before .if3 .left), ne-eqb _ _ (c .before .before .before .before .if4 .left), ne-eqb _ _ (c .before .before .if5 .left), c .before .if6 .taken) (c .needed-tiles .ensures)
+unfolding lineAt tagAt table
+returns-6 c = rw (c .before .if6 .taken) (search nine depth 7)
 
 needed-strips-requires : tie.Need-needed-strips-requires
 needed-strips-requires c κs = search needs
 
 returns-7 : tie.Need-returns-7
-unfolding nineFrom lacksAt lineAt tagAt slots table firstBad
-returns-7 c = rw (ne-eqb _ _ (c .before .before .before .before .before .before .before .before .before .before .if1 .left), ne-eqb _ _ (c .before .before .before .before .before .before .before .before .if2 .left), ne-eqb _ _ (c .before .before .before .before .before .before .if3 .left), ne-eqb _ _ (c .before .before .before .before .if4 .left), ne-eqb _ _ (c .before .before .if5 .left), c .before .if6 .left) (c .needed-strips .ensures)
+unfolding lineAt tagAt table
+returns-7 c = rw (c .before .if6 .left) (search nine depth 7)
 
 pub needed-tags-spec : {M : Type 1} → statement M
 needed-tags-spec =

@@ -1,11 +1,11 @@
 -- `number_at` fetches a SHORT or a LONG by its type. Assumes nothing.
-use Rattle.tags.proofs.Values.{long-within, not-long, short-within}
-use Rattle.tags.specs.Numbers.{numberIn, shortIn}
-use Rattle.paper.specs.Layout.{sizeOf}
 use Prim.Native.Nat.{_+_, _-_}
 use mathlib.Core.Path.{_≡_}
 use native.Mathlib.Omega.{arith}
 use borrow.Author.Needs.{needs}
+use Rattle.paper.specs.Layout.{sizeOf}
+use Rattle.tags.specs.Numbers.{numberIn, shortIn}
+use Rattle.tags.proofs.Values.{long-within, not-long, short-within}
 use Rattle.tags.proofs.number_at.Statement.{statement}
 use Rattle.tags.proofs.number_at.Tie as tie
 
@@ -27,7 +27,8 @@ long-requires c κs = search needs
 returns : tie.Need-returns
 unfolding numberIn sizeOf
 returns c =
-    let w : c .before .before .before .before .args .start + 4 - c .before .before .before .before .args .start ≡ 4 = omega arith in
+    let s = c .before .before .before .before .args .start in
+    let w : s + 4 - s ≡ 4 = omega arith in
     rw (c .before .before .if1 .taken) (rw w at (c .long .ensures .0), c .long .ensures .1)
 
 short-at-requires : tie.Need-short-at-requires

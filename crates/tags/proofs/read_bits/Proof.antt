@@ -1,12 +1,13 @@
 -- `read_bits` tells of the values of 258 the first, whether all are allowed, and whether all are the first: at each turn of those before i. Assumes nothing.
-use borrow.Author.Tests.{eq-eqb}
-use native.Mathlib.Omega.{arith}
-use mathlib.Core.Path.{refl, sym}
 use Prim.Native.Nat.{_-_, _≤_}
+use mathlib.Core.Path.{refl, sym}
+use native.Mathlib.Omega.{arith}
 use lib.Dec.{eqb}
+use borrow.Author.Needs.{needs}
+use borrow.Author.Tests.{eq-eqb}
 use Rattle.paper.specs.Tests.{allows}
-use Rattle.tags.specs.Numbers.{depths, bitsIn}
-use Rattle.tags.proofs.Values.{SoFar, so-far-none, so-far-more, so-far-all}
+use Rattle.tags.specs.Numbers.{depths}
+use Rattle.tags.proofs.Values.{SoFar, so-far-none, so-far-more, bits-read}
 use Rattle.tags.proofs.read_bits.Statement.{statement}
 use Rattle.tags.proofs.read_bits.Tie as tie
 
@@ -17,46 +18,48 @@ abbrev μ-loop : tie.MeasureT-loop
 μ-loop part big k first allowed₀ same₀ i₀ allowed same i = k - i
 
 short-requires : tie.Need-short-requires Inv-loop μ-loop
-short-requires c κs = omega (arith, (c .before .pre) .0, (c .before .pre) .1)
+short-requires c κs = search needs
 
 is-depth-requires : tie.Need-is-depth-requires Inv-loop μ-loop
-is-depth-requires c κs = tt
+is-depth-requires c κs = search needs
 
 loop-holds : tie.Need-loop-holds Inv-loop μ-loop
-loop-holds c = (
-  omega (arith, (c .before .before .before .pre) .0),
-  so-far-more (c .before .before .before .args .part .now) (c .before .before .before .args .big) (c .before .before .before .args .k) (allows depths) 0 _ _ _ ((c .before .before .before .pre) .0) (c .before .short .ensures .0) (c .is-depth .ensures) (so-far-none (c .before .before .before .args .part .now) (c .before .before .before .args .big) (c .before .before .before .args .k) (allows depths)),
-  so-far-more (c .before .before .before .args .part .now) (c .before .before .before .args .big) (c .before .before .before .args .k) (eqb (c .before .short .result)) 0 _ _ _ ((c .before .before .before .pre) .0) (c .before .short .ensures .0) (sym (eq-eqb (c .before .short .result) (c .before .short .result) refl)) (so-far-none (c .before .before .before .args .part .now) (c .before .before .before .args .big) (c .before .before .before .args .k) (eqb (c .before .short .result))),
-)
+loop-holds c =
+    let some = c .before .before .before .pre .0 in
+    let first = c .before .short .ensures .0 in (
+      omega arith,
+      so-far-more some first (c .is-depth .ensures) so-far-none,
+      so-far-more some first (sym (eq-eqb (c .before .short .result) (c .before .short .result) refl)) so-far-none,
+    )
 
 mul-short : tie.Need-mul-short Inv-loop μ-loop
-mul-short c = omega (arith, (c .before .before .before .before .before .pre) .1, c .before .before .before .before .before .fits)
+mul-short c = search needs
 
 short-requires-2 : tie.Need-short-requires-2 Inv-loop μ-loop
-short-requires-2 c κs = omega (arith, (c .before .before .before .before .before .pre) .1)
+short-requires-2 c κs = search needs
 
 is-depth-requires-2 : tie.Need-is-depth-requires-2 Inv-loop μ-loop
-is-depth-requires-2 c κs = tt
+is-depth-requires-2 c κs = search needs
 
 add-i : tie.Need-add-i Inv-loop μ-loop
-add-i c = omega (arith, (c .before .before .before .before .before .before .before .pre) .1)
+add-i c = search needs
 
 loop-less : tie.Need-loop-less Inv-loop μ-loop
-loop-less c = omega arith
+loop-less c = search needs
 
 loop-again : tie.Need-loop-again Inv-loop μ-loop
-loop-again c = (
-  omega arith,
-  so-far-more (c .before .before .before .before .before .before .before .args .part .now) (c .before .before .before .before .before .before .before .args .big) (c .before .before .before .before .before .before .before .args .k) (allows depths) _ _ _ _ (c .before .before .loop-test .taken) (c .before .short2 .ensures .0) (c .is-depth2 .ensures) (c .before .before .before .loop .inv .1),
-  so-far-more (c .before .before .before .before .before .before .before .args .part .now) (c .before .before .before .before .before .before .before .args .big) (c .before .before .before .before .before .before .before .args .k) (eqb _) _ _ _ _ (c .before .before .loop-test .taken) (c .before .short2 .ensures .0) refl (c .before .before .before .loop .inv .2),
-)
+loop-again c =
+    let l = c .before .before .before .loop .inv in
+    let more = c .before .before .loop-test .taken in (
+      omega arith,
+      so-far-more more (c .before .short2 .ensures .0) (c .is-depth2 .ensures) (l .1),
+      so-far-more more (c .before .short2 .ensures .0) refl (l .2),
+    )
 
 returns : tie.Need-returns Inv-loop μ-loop
-unfolding bitsIn
 returns c =
-    let a = so-far-all (c .before .before .before .before .before .args .part .now) (c .before .before .before .before .before .args .big) (c .before .before .before .before .before .args .k) (allows depths) _ _ (c .loop-test .left) (c .before .loop .inv .0) (c .before .loop .inv .1) in
-    let s = so-far-all (c .before .before .before .before .before .args .part .now) (c .before .before .before .before .before .args .big) (c .before .before .before .before .before .args .k) (eqb _) _ _ (c .loop-test .left) (c .before .loop .inv .0) (c .before .loop .inv .2) in
-    rw (a, s, c .before .before .before .short .ensures .0)
+    let l = c .before .loop .inv in
+    bits-read (c .loop-test .left) (l .0) (c .before .before .before .short .ensures .0) (l .1) (l .2)
 
 pub read-bits-spec : {M : Type 1} → statement M
 read-bits-spec =

@@ -1,7 +1,7 @@
 -- `read_numbers` fetches each value of a tag with one number. Assumes nothing.
 use native.Mathlib.Omega.{arith}
-use Rattle.tags.specs.Numbers.{numbersIn}
 use borrow.Author.Needs.{needs}
+use Rattle.tags.specs.Numbers.{numbersIn}
 use Rattle.tags.proofs.read_numbers.Statement.{statement}
 use Rattle.tags.proofs.read_numbers.Tie as tie
 
@@ -78,11 +78,38 @@ element-copy-out-number-if-9 : tie.Need-element-copy-out-number-if-9
 element-copy-out-number-if-9 c = search needs
 
 number-if-requires-4 : tie.Need-number-if-requires-4
-number-if-requires-4 c κs = ((c .before .before .before .before .before .before .before .before .before .before .before .before .before .before .before .before .before .before .before .before .before .before .before .before .before .pre) .tilelength, omega arith)
+number-if-requires-4 c κs =
+    let b = c .before .before .before .before .before .before .before .before .before .before .before .before .before .before .before in
+    (b .before .before .before .before .before .before .before .before .before .before .pre .tilelength, omega arith)
 
 returns : tie.Need-returns
 unfolding numbersIn
-returns c = (rw (c .before .before .before .before .before .before .before .before .before .before .before .before .before .before .before .before .before .before .before .before .before .before .number-at .ensures .0, c .before .before .before .before .before .before .before .before .before .before .before .before .before .before .before .before .before .before .before .number-at2 .ensures .0, c .before .before .before .before .before .before .before .before .before .before .before .before .before .before .before .before .before .short-at .ensures .0, c .before .before .before .before .before .before .before .before .before .before .before .before .before .before .before .short-at2 .ensures .0, c .before .before .before .before .before .before .before .before .before .before .before .before .before .short-at3 .ensures .0, c .before .before .before .before .before .before .before .before .before .before .number-if .ensures .0, c .before .before .before .before .before .before .number-if2 .ensures .0, c .before .before .before .number-if3 .ensures .0, c .number-if4 .ensures .0), record { width = c .before .before .before .before .before .before .before .before .before .before .before .before .before .before .before .before .before .before .before .before .before .before .number-at .ensures .1; length = c .before .before .before .before .before .before .before .before .before .before .before .before .before .before .before .before .before .before .before .number-at2 .ensures .1; rows = c .before .before .before .before .before .before .before .before .before .before .number-if .ensures .1; tilewidth = c .before .before .before .number-if3 .ensures .1; tilelength = c .number-if4 .ensures .1 })
+returns c =
+    let g = c .before .before .before in
+    let f = g .before .before .before in
+    let e = f .before .before .before .before in
+    let d = e .before .before .before in
+    let w = d .before .before .before .before .before .before in
+    let v = w .before .before .before in (
+      rw (
+        v .number-at .ensures .0,
+        w .number-at2 .ensures .0,
+        d .before .before .before .before .short-at .ensures .0,
+        d .before .before .short-at2 .ensures .0,
+        d .short-at3 .ensures .0,
+        e .number-if .ensures .0,
+        f .number-if2 .ensures .0,
+        g .number-if3 .ensures .0,
+        c .number-if4 .ensures .0,
+      ),
+      record {
+        width = v .number-at .ensures .1;
+        length = w .number-at2 .ensures .1;
+        rows = e .number-if .ensures .1;
+        tilewidth = g .number-if3 .ensures .1;
+        tilelength = c .number-if4 .ensures .1;
+      },
+    )
 
 pub read-numbers-spec : {M : Type 1} → statement M
 read-numbers-spec =

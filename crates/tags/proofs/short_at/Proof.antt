@@ -1,9 +1,9 @@
 -- `short_at` fetches the SHORT that stands in the two bytes from a start. Assumes nothing.
-use Rattle.tags.specs.Numbers.{shortIn}
 use Prim.Native.Nat.{_+_, _-_}
 use mathlib.Core.Path.{_≡_}
 use native.Mathlib.Omega.{arith}
 use borrow.Author.Needs.{needs}
+use Rattle.tags.specs.Numbers.{shortIn}
 use Rattle.tags.proofs.short_at.Statement.{statement}
 use Rattle.tags.proofs.short_at.Tie as tie
 
@@ -25,7 +25,8 @@ short-requires c κs = search needs
 returns : tie.Need-returns
 unfolding shortIn
 returns c =
-    let w : c .before .before .before .args .start + 2 - c .before .before .before .args .start ≡ 2 = omega arith in
+    let s = c .before .before .before .args .start in
+    let w : s + 2 - s ≡ 2 = omega arith in
     (rw w at (c .short .ensures .0), c .short .ensures .1)
 
 pub short-at-spec : {M : Type 1} → statement M

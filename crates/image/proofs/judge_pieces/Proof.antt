@@ -1,0 +1,118 @@
+-- `judge_pieces` hands the runs of the pieces and the columns' parts to the pass over the places. Assumes nothing.
+use borrow.Author.Needs.{needs}
+use Rattle.image.proofs.Placing.{slot-within, places-asked, pieces-seen}
+use Rattle.image.proofs.judge_pieces.Statement.{statement}
+use Rattle.image.proofs.judge_pieces.Tie as tie
+
+offsets-slot-requires : tie.Need-offsets-slot-requires
+offsets-slot-requires c κs = search needs
+
+byte-counts-slot-requires : tie.Need-byte-counts-slot-requires
+byte-counts-slot-requires c κs = search needs
+
+mul-value : tie.Need-mul-value
+mul-value c = search needs
+
+element-copy-out-value : tie.Need-element-copy-out-value
+element-copy-out-value c = search needs
+
+mul-value-2 : tie.Need-mul-value-2
+mul-value-2 c = search needs
+
+element-copy-out-value-2 : tie.Need-element-copy-out-value-2
+element-copy-out-value-2 c = search needs
+
+value-requires : tie.Need-value-requires
+value-requires c κs = slot-within (c .before .before .before .before .before .pre) _ (c .before .before .before .offsets-slot .ensures .1)
+
+mul-value-3 : tie.Need-mul-value-3
+mul-value-3 c = search needs
+
+element-copy-out-value-3 : tie.Need-element-copy-out-value-3
+element-copy-out-value-3 c = search needs
+
+mul-value-4 : tie.Need-mul-value-4
+mul-value-4 c = search needs
+
+element-copy-out-value-4 : tie.Need-element-copy-out-value-4
+element-copy-out-value-4 c = search needs
+
+value-requires-2 : tie.Need-value-requires-2
+value-requires-2 c κs = slot-within (c .before .before .before .before .before .before .before .before .pre) _ (c .before .before .before .before .before .byte-counts-slot .ensures .1)
+
+outer-requires : tie.Need-outer-requires
+outer-requires c κs = search needs
+
+outer-requires-2 : tie.Need-outer-requires-2
+outer-requires-2 c κs = search needs
+
+mul-judge-places : tie.Need-mul-judge-places
+mul-judge-places c = search needs
+
+element-copy-out-judge-places : tie.Need-element-copy-out-judge-places
+element-copy-out-judge-places c = search needs
+
+mul-judge-places-2 : tie.Need-mul-judge-places-2
+mul-judge-places-2 c = search needs
+
+element-copy-out-judge-places-2 : tie.Need-element-copy-out-judge-places-2
+element-copy-out-judge-places-2 c = search needs
+
+mul-judge-places-3 : tie.Need-mul-judge-places-3
+mul-judge-places-3 c = search needs
+
+element-copy-out-judge-places-3 : tie.Need-element-copy-out-judge-places-3
+element-copy-out-judge-places-3 c = search needs
+
+slice-aggregate-judge-places : tie.Need-slice-aggregate-judge-places
+slice-aggregate-judge-places c = search needs
+
+slice-aggregate-judge-places-2 : tie.Need-slice-aggregate-judge-places-2
+slice-aggregate-judge-places-2 c = search needs
+
+judge-places-requires : tie.Need-judge-places-requires
+judge-places-requires c κs =
+    let o = c .before .before .before .before .before in
+    let v = o .before .before in
+    let w = v .before .before .before in
+    let s = w .before .before .before in
+    places-asked (s .before .before .before .pre) (s .before .offsets-slot .ensures .0) (s .byte-counts-slot .ensures .0) (w .value .ensures) (v .value2 .ensures)
+    (o .before .outer .ensures) (o .outer2 .ensures)
+
+returns : tie.Need-returns
+returns c =
+    let o = c .before .before .before .before .before .before in
+    let v = o .before .before in
+    let w = v .before .before .before in
+    let s = w .before .before .before in
+    pieces-seen (s .before .before .before .pre) (s .before .offsets-slot .ensures .0) (s .byte-counts-slot .ensures .0) (w .value .ensures) (v .value2 .ensures)
+    (o .before .outer .ensures) (o .outer2 .ensures) _ (c .judge-places .ensures)
+
+pub judge-pieces-spec : {M : Type 1} → statement M
+judge-pieces-spec =
+    tie.close
+    (tie.spec
+    offsets-slot-requires
+    byte-counts-slot-requires
+    mul-value
+    element-copy-out-value
+    mul-value-2
+    element-copy-out-value-2
+    value-requires
+    mul-value-3
+    element-copy-out-value-3
+    mul-value-4
+    element-copy-out-value-4
+    value-requires-2
+    outer-requires
+    outer-requires-2
+    mul-judge-places
+    element-copy-out-judge-places
+    mul-judge-places-2
+    element-copy-out-judge-places-2
+    mul-judge-places-3
+    element-copy-out-judge-places-3
+    slice-aggregate-judge-places
+    slice-aggregate-judge-places-2
+    judge-places-requires
+    returns)

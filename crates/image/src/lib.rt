@@ -1,0 +1,226 @@
+// The image of a file, rules 1 to 14 and 27: its head, its directory by the table, where its pieces lie. What it leaves is the picture's size, the byte
+// order, the next offset and where the values stand that others read; the survey judges some of these.
+ghost use mathlib.Core.Path.{_≡_};
+ghost use Prim.Native.Nat.{_<_};
+ghost use lib.ListN.{getD};
+ghost use Rattle.paper.specs.Judge.{pictureStage};
+ghost use Rattle.layout.specs.Opening.{headedOf};
+ghost use Rattle.layout.specs.declared.Headed.the-variants.{Good};
+ghost use Rattle.tags.specs.Tagging.{viewOf};
+ghost use Rattle.image.specs.Imaging.{noImage, imageBy, imageOf};
+ghost use Rattle.image.specs.Stages.{Opening, Passed, Fits, piecesJudged, outerOf};
+use paper::Part;
+use paper::Verdict;
+
+// What rules 1 to 14 and 27 find of a file: their verdict, the byte order, the picture's width and length, the next offset, and where the values stand
+// that the survey and the other calls ask for. With a broken rule all but the verdict is 0, false or empty.
+pub struct Image {
+    pub verdict: Verdict,
+    pub big: bool,
+    pub width: u32,
+    pub length: u32,
+    pub next: u32,
+    pub directory: Part,
+    pub doubles: Part,
+    pub characters: Part,
+    pub scale: Part,
+    pub tiepoint: Part,
+    pub matrix: Part,
+    pub metadata: Part,
+}
+
+// What is told where a rule is broken.
+fn no_image(verdict: Verdict) -> Image
+    ensures { λ r. ⌜ r ≡ noImage verdict ⌝ }
+{
+    let none = Part { start: 0, len: 0 };
+    Image {
+        verdict,
+        big: false,
+        width: 0,
+        length: 0,
+        next: 0,
+        directory: none,
+        doubles: none,
+        characters: none,
+        scale: none,
+        tiepoint: none,
+        matrix: none,
+        metadata: none,
+    }
+}
+
+// The part of slot k of the columns.
+fn part_at(starts: &[usize; 23], lens: &[usize; 23], k: usize) -> Part
+    requires { ⌜ k < 23 ⌝ }
+    ensures { λ r. ⌜ r ≡ record { start = getD (now (starts .entry)) k 0; len = getD (now (lens .entry)) k 0 } ⌝ }
+{
+    Part {
+        start: starts[k],
+        len: lens[k],
+    }
+}
+
+// The numbers of a column whose parts may lie outside their entries, where the pieces have slots a and b: the tags with one SHORT or LONG are left out,
+// and the slots of the family that is absent.
+fn outer(column: &[usize; 23], a: usize, b: usize) -> [usize; 12]
+    requires { ⌜ (a < 23) × (b < 23) ⌝ }
+    ensures { λ r. ⌜ r ≡ outerOf (now (column .entry)) a b ⌝ }
+{
+    [
+        column[2],
+        column[a],
+        column[b],
+        column[14],
+        column[15],
+        column[16],
+        column[17],
+        column[18],
+        column[19],
+        column[20],
+        column[21],
+        column[22],
+    ]
+}
+
+// Rules 13 and 14, over the runs of the pieces' offsets and byte counts.
+fn judge_pieces(
+    file: &[u8],
+    big: bool,
+    at: usize,
+    c: usize,
+    tiled: bool,
+    typs: &[usize; 21],
+    counts: &[usize; 21],
+    starts: &[usize; 23],
+    lens: &[usize; 23],
+) -> Verdict
+    requires { ⌜ Fits (now file) big at c tiled (now typs) (now counts) (now starts) (now lens) ⌝ }
+    ensures { λ r. ⌜ r ≡ piecesJudged (viewOf (now (file .entry)) big at c) ⌝ }
+{
+    let a = tags::offsets_slot(tiled);
+    let b = tags::byte_counts_slot(tiled);
+    let offsets = layout::value(file, starts[a], lens[a]);
+    let bytecounts = layout::value(file, starts[b], lens[b]);
+    let outerstarts = outer(starts, a, b);
+    let outerlens = outer(lens, a, b);
+    pieces::judge_places(
+        offsets,
+        typs[a] == 4,
+        bytecounts,
+        typs[b] == 4,
+        big,
+        counts[a],
+        file.len(),
+        &outerstarts,
+        &outerlens,
+        12,
+    )
+}
+
+// Rules 27 and 9 to 14, from the columns of the directory.
+fn image_columns(
+    file: &[u8],
+    big: bool,
+    at: usize,
+    c: usize,
+    next: u32,
+    typs: &[usize; 21],
+    counts: &[usize; 21],
+    starts: &[usize; 23],
+    lens: &[usize; 23],
+) -> Image
+    requires { ⌜ Passed (now file) big at c (now typs) (now counts) (now starts) (now lens) ⌝ }
+    ensures { λ r. ⌜ r ≡ imageBy (pictureStage (viewOf (now (file .entry)) big at c)) (viewOf (now (file .entry)) big at c) next ⌝ }
+{
+    let t = tags::judge_tags(file, big, at, c, typs, counts, starts, lens);
+    if t.verdict.number != 0 {
+        return no_image(t.verdict);
+    }
+    let s = judge_pieces(file, big, at, c, t.tiled, typs, counts, starts, lens);
+    if s.number != 0 {
+        return no_image(s);
+    }
+    Image {
+        verdict: Verdict {
+            number: 0,
+            place: 0,
+        },
+        big,
+        width: t.width,
+        length: t.length,
+        next,
+        directory: part_at(starts, lens, 17),
+        doubles: part_at(starts, lens, 18),
+        characters: part_at(starts, lens, 19),
+        scale: part_at(starts, lens, 14),
+        tiepoint: part_at(starts, lens, 15),
+        matrix: part_at(starts, lens, 16),
+        metadata: part_at(starts, lens, 20),
+    }
+}
+
+// Rules 6 to 14 and 27, of a file whose directory of c entries is laid at a place.
+fn image_laid(file: &[u8], big: bool, at: usize, c: usize) -> Image
+    requires { ⌜ Opening (now file) big at c ⌝ }
+    ensures { λ r. ⌜ r ≡ imageOf (now (file .entry)) ⌝ }
+{
+    let n = file.len();
+    let len = 2 + 12 * c + 4;
+    let end = at + len;
+    let mut typs = [0usize; 21];
+    let mut counts = [0usize; 21];
+    let mut starts = [0usize; 23];
+    let mut lens = [0usize; 23];
+    starts[22] = at;
+    lens[21] = 8;
+    lens[22] = len;
+    let cells = layout::CELLS;
+    let slots = layout::SLOTS;
+    let s = layout::scan(
+        &cells,
+        &slots,
+        &file[at..end],
+        big,
+        at,
+        c,
+        n,
+        &mut typs,
+        &mut counts,
+        &mut starts,
+        &mut lens,
+    );
+    if s.verdict.number != 0 {
+        return no_image(s.verdict);
+    }
+    if s.next != 0 {
+        return no_image(Verdict {
+            number: 8,
+            place: 0,
+        });
+    }
+    image_columns(file, big, at, c, s.next, &typs, &counts, &starts, &lens)
+}
+
+// Rules 4 to 14 and 27, of a file whose head names the place of its directory.
+fn image_at(file: &[u8], big: bool, at: u32) -> Image
+    requires { ⌜ headedOf (now file) ≡ Good big at ⌝ }
+    ensures { λ r. ⌜ r ≡ imageOf (now (file .entry)) ⌝ }
+{
+    let o = layout::open(file, big, at);
+    match o {
+        layout::Opened::Refused(number, place) => no_image(Verdict { number, place }),
+        layout::Opened::Laid(c) => image_laid(file, big, at as usize, c),
+    }
+}
+
+// Rules 1 to 14 and 27.
+pub fn judge_image(file: &[u8]) -> Image
+    ensures { λ r. ⌜ r ≡ imageOf (now (file .entry)) ⌝ }
+{
+    let h = layout::read_head(file);
+    match h {
+        layout::Headed::Bad(number, place) => no_image(Verdict { number, place }),
+        layout::Headed::Good(big, at) => image_at(file, big, at),
+    }
+}

@@ -1,0 +1,184 @@
+-- The image and then the survey are the whole judgement: where the image or the survey refuses, its verdict is the file's; where neither does, what both
+-- found is what the view shows. Assumes nothing.
+use Prim.Native.Nat.{ℕ, _+_, _≤_, _<_}
+use mathlib.Core.Path.{_≡_, refl, sym, ap, _∙_, subst}
+use mathlib.Core.Bool.{Bool, true, false}
+use mathlib.Core.List.{List}
+use lib.Dec.{eqb, lit<}
+use lib.ListN.{length}
+use borrow.Author.Tests.{eqb-true, eqb-false}
+use Rattle.paper.specs.Bytes.{run}
+use Rattle.paper.specs.Tag
+use Rattle.paper.specs.Tags.{table, bytesOf}
+use Rattle.paper.specs.declared.Part.{Part}
+use Rattle.paper.specs.Judge.{view, headIn, nextIn, runsOf, surveyOf, surveyRules, imageStage, surveyStage, verdictOf}
+use Rattle.paper.specs.Calls.{judgedIn}
+use Rattle.paper.proofs.First.{chain-zero, chain-stop}
+use Rattle.paper.proofs.Called.{answer-good, answer-bad}
+use Rattle.paper.specs.declared.Judged.{Judged}
+use Rattle.paper.specs.declared.Verdict.{Verdict}
+use Rattle.tags.specs.Slots.{lineAt, tagAt}
+use Rattle.keys.specs.Pass.{runs}
+use Rattle.ground.specs.Answer.{Sized}
+use Rattle.image.specs.Imaging.{tagPart, imageIn, noImage, imageBy, imageOf}
+use Rattle.image.specs.declared.Image.{Image}
+use Rattle.survey.specs.Surveying.{surveyedOf, judgedBy}
+use Rattle.judge.specs.Examining.{examinedIn, notExamined, examinedOf}
+use Rattle.judge.proofs.Seen.{Stands, image-stands, sized}
+
+-- the file's verdict is w
+refused-by : (f : List ℕ) (w : Verdict) → verdictOf f ≡ w → (w .number ≡ 0 → ⊥) → notExamined w ≡ examinedOf f
+unfolding examinedOf
+refused-by f w e n =
+    sym (answer-bad f examinedIn notExamined (λ z. n (ap (λ (v : Verdict). v .number) (sym e) ∙ z)) ∙ ap notExamined e)
+
+-- a part that lies in the file, and the bytes that it names
+pub record Names (f : List ℕ) (p : Part) (bytes : List ℕ) : Type 0 where
+  pub within : p .start + p .len ≤ length f
+  pub bytes-are : run f (p .start) (p .len) ≡ bytes
+
+module _ (f : List ℕ) {i : Image} (is : i ≡ imageOf f) where
+  image-whole : (imageStage f .number ≡ 0 → ⊥) → i ≡ noImage (imageStage f)
+  unfolding imageOf imageBy
+  image-whole n = is ∙ go (eqb (imageStage f .number) 0) refl
+    where
+      go : (b : Bool) → eqb (imageStage f .number) 0 ≡ b → imageOf f ≡ noImage (imageStage f)
+      go true e = absurd (n (eqb-true _ _ e))
+      go false e = rw e
+
+  image-found : imageStage f .number ≡ 0 → i ≡ imageIn (view f) (nextIn f (headIn f))
+  unfolding imageOf imageBy
+  image-found z = is ∙ go (eqb (imageStage f .number) 0) refl
+    where
+      go : (b : Bool) → eqb (imageStage f .number) 0 ≡ b → imageOf f ≡ imageIn (view f) (nextIn f (headIn f))
+      go true e = rw e
+      go false e = absurd (eqb-false _ _ e z)
+
+  -- the image refuses
+  pub image-bad : (i .verdict .number ≡ 0 → ⊥) → notExamined (i .verdict) ≡ examinedOf f
+  unfolding verdictOf imageIn
+  image-bad n = go (eqb (imageStage f .number) 0) refl
+    where
+      go : (b : Bool) → eqb (imageStage f .number) 0 ≡ b → notExamined (i .verdict) ≡ examinedOf f
+      go true e = absurd (n (ap (λ (x : Image). x .verdict .number) (image-found (eqb-true _ _ e))))
+      go false e =
+          let w : i .verdict ≡ imageStage f = ap (λ (x : Image). x .verdict) (image-whole (eqb-false _ _ e)) in
+          refused-by f (i .verdict) (chain-stop (imageStage f) (surveyStage (view f)) (eqb-false _ _ e) ∙ sym w) n
+
+  module _ (z : i .verdict .number ≡ 0) where
+    image-zero : imageStage f .number ≡ 0
+    image-zero = go (eqb (imageStage f .number) 0) refl
+      where
+        go : (b : Bool) → eqb (imageStage f .number) 0 ≡ b → imageStage f .number ≡ 0
+        go true e = eqb-true _ _ e
+        go false e = ap (λ (x : Image). x .verdict .number) (sym (image-whole (eqb-false _ _ e))) ∙ z
+
+    here : i ≡ imageIn (view f) (nextIn f (headIn f))
+    here = image-found image-zero
+
+    names : (p : Part) (k : ℕ) → k < 21 → p ≡ tagPart (tagAt k) (view f .held) → Names f p (bytesOf (tagAt k) (view f .held))
+    unfolding tagPart
+    names p k h e =
+        let s : Stands f (view f .held) (tagAt k) = image-stands f image-zero k h in
+        subst (λ (q : Part). Names f q (bytesOf (tagAt k) (view f .held))) (sym e) (record { within = s .within; bytes-are = s .bytes })
+
+    pub directory-named : Names f (i .directory) (bytesOf Tag.keyDirectory (view f .held))
+    unfolding imageIn tagAt lineAt table
+    directory-named = names (i .directory) 17 (lit< tt) (ap (λ (x : Image). x .directory) here)
+
+    pub doubles-named : Names f (i .doubles) (bytesOf Tag.doubles (view f .held))
+    unfolding imageIn tagAt lineAt table
+    doubles-named = names (i .doubles) 18 (lit< tt) (ap (λ (x : Image). x .doubles) here)
+
+    pub characters-named : Names f (i .characters) (bytesOf Tag.characters (view f .held))
+    unfolding imageIn tagAt lineAt table
+    characters-named = names (i .characters) 19 (lit< tt) (ap (λ (x : Image). x .characters) here)
+
+    pub scale-named : Names f (i .scale) (bytesOf Tag.scale (view f .held))
+    unfolding imageIn tagAt lineAt table
+    scale-named = names (i .scale) 14 (lit< tt) (ap (λ (x : Image). x .scale) here)
+
+    pub tiepoint-named : Names f (i .tiepoint) (bytesOf Tag.tiepoint (view f .held))
+    unfolding imageIn tagAt lineAt table
+    tiepoint-named = names (i .tiepoint) 15 (lit< tt) (ap (λ (x : Image). x .tiepoint) here)
+
+    pub matrix-named : Names f (i .matrix) (bytesOf Tag.matrix (view f .held))
+    unfolding imageIn tagAt lineAt table
+    matrix-named = names (i .matrix) 16 (lit< tt) (ap (λ (x : Image). x .matrix) here)
+
+    -- the runs that the survey is handed
+    module _ {directory doubles characters scale tiepoint matrix : List ℕ}
+        (d : directory ≡ run f (i .directory .start) (i .directory .len)) (x : doubles ≡ run f (i .doubles .start) (i .doubles .len))
+        (ch : characters ≡ run f (i .characters .start) (i .characters .len)) (s : scale ≡ run f (i .scale .start) (i .scale .len))
+        (t : tiepoint ≡ run f (i .tiepoint .start) (i .tiepoint .len)) (m : matrix ≡ run f (i .matrix .start) (i .matrix .len)) where
+      pub runs-sized : Sized scale tiepoint matrix
+      runs-sized =
+          rw (s ∙ scale-named .bytes-are, t ∙ tiepoint-named .bytes-are, m ∙ matrix-named .bytes-are) (sized f image-zero)
+
+      module _ {j : Judged} (so : j ≡ surveyedOf (runs (i .big) directory doubles characters) scale tiepoint matrix (i .width) (i .length)) where
+        judged-is : j ≡ judgedBy (surveyStage (view f)) (runsOf (view f)) (surveyOf (view f))
+        unfolding surveyedOf surveyStage surveyRules runsOf surveyOf imageIn
+        judged-is =
+            so
+            ∙ (λ k. surveyedOf
+            (runs (here k .big) ((d ∙ directory-named .bytes-are) k) ((x ∙ doubles-named .bytes-are) k) ((ch ∙ characters-named .bytes-are) k))
+            ((s ∙ scale-named .bytes-are) k) ((t ∙ tiepoint-named .bytes-are) k) ((m ∙ matrix-named .bytes-are) k) (here k .width) (here k .length))
+
+        verdict-is : verdictOf f ≡ surveyStage (view f)
+        unfolding verdictOf
+        verdict-is = chain-zero (imageStage f) (surveyStage (view f)) image-zero
+
+        -- the survey refuses
+        pub survey-bad : (j .verdict .number ≡ 0 → ⊥) → notExamined (j .verdict) ≡ examinedOf f
+        survey-bad n = go (eqb (surveyStage (view f) .number) 0) refl
+          where
+            go : (b : Bool) → eqb (surveyStage (view f) .number) 0 ≡ b → notExamined (j .verdict) ≡ examinedOf f
+            go true e = let w : j .verdict .number ≡ 0 = ap (λ (y : Judged). y .verdict .number) judged-is ∙ rw e in absurd (n w)
+            go false e =
+                let w : j .verdict ≡ surveyStage (view f) = ap (λ (y : Judged). y .verdict) judged-is ∙ rw e in
+                refused-by f (j .verdict) (verdict-is ∙ sym w) n
+
+        -- neither refuses
+        pub both-good : j .verdict .number ≡ 0
+            → record {
+              judged = j;
+              big = i .big;
+              width = i .width;
+              length = i .length;
+              directory = i .directory;
+              doubles = i .doubles;
+              characters = i .characters;
+              metadata = i .metadata;
+            }
+            ≡ examinedOf f
+        unfolding examinedOf examinedIn imageIn judgedIn
+        both-good q = go (eqb (surveyStage (view f) .number) 0) refl
+          where
+            go : (b : Bool) → eqb (surveyStage (view f) .number) 0 ≡ b
+                → record {
+                  judged = j;
+                  big = i .big;
+                  width = i .width;
+                  length = i .length;
+                  directory = i .directory;
+                  doubles = i .doubles;
+                  characters = i .characters;
+                  metadata = i .metadata;
+                }
+                ≡ examinedOf f
+            go true e =
+                let w : j ≡ judgedIn (view f) = judged-is ∙ rw e in
+                (λ k. record {
+                  judged = w k;
+                  big = here k .big;
+                  width = here k .width;
+                  length = here k .length;
+                  directory = here k .directory;
+                  doubles = here k .doubles;
+                  characters = here k .characters;
+                  metadata = here k .metadata;
+                })
+                ∙ sym (answer-good f examinedIn notExamined (ap (λ (v : Verdict). v .number) verdict-is ∙ eqb-true _ _ e))
+            go false e =
+                let w : j .verdict ≡ surveyStage (view f) = ap (λ (y : Judged). y .verdict) judged-is ∙ rw e in
+                absurd (eqb-false _ _ e (ap (λ (v : Verdict). v .number) (sym w) ∙ q))

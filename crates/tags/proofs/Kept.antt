@@ -1,0 +1,82 @@
+-- What rules 11 and 12 say of the values where they are kept. Assumes nothing.
+use Prim.Native.Nat.{ℕ, _≤_, _<_}
+use mathlib.Core.Path.{_≡_, refl, sym, _∙_}
+use mathlib.Core.Bool.{Bool, true, false, cond, not, _&&_, _||_, or-false}
+use mathlib.Core.List.{List, [], _∷_}
+use lib.Dec.{eqb, leb, ltb}
+use borrow.Author.Tests.{leb-true, ltb-true, not-false, eqb-true}
+use Rattle.paper.specs.Outcome.{breaks, firstOf}
+use Rattle.paper.specs.declared.Outcome.{Outcome}
+use Rattle.paper.specs.declared.Outcome.the-variants.{Kept as kept}
+use Rattle.paper.specs.Tests.{some, between, just, allows}
+use Rattle.paper.specs.Tags.{more, sixteens}
+use Rattle.paper.proofs.Laws.{and-eq, kept-cond}
+use Rattle.tags.specs.declared.Numbers.{Numbers}
+use Rattle.tags.specs.declared.Bits.{Bits}
+use Rattle.tags.specs.Numbers.{sides, codings, elevenOf, countOfPieces, twelveOf}
+
+in-range : (a b v : ℕ) → not (allows (between a b ∷ []) v) ≡ false → (a ≤ v) × (v ≤ b)
+unfolding allows some
+in-range a b v h =
+    let p = and-eq (leb a v) (leb v b) (sym (or-false (leb a v && leb v b)) ∙ not-false _ h) in
+    (leb-true a v (p .0), leb-true v b (p .1))
+
+some-sixteens : (v : ℕ) → not (sixteens v) ≡ false → 0 < v
+unfolding sixteens
+some-sixteens v h = ltb-true 0 v (and-eq (ltb 0 v) _ (not-false _ h) .0)
+
+-- rule 11 kept
+pub record Allowed (n : Numbers) : Type 0 where
+  pub width-low : 1 ≤ n .width
+  pub width-high : n .width ≤ 1000000
+  pub length-low : 1 ≤ n .length
+  pub length-high : n .length ≤ 1000000
+  pub rows-low : 1 ≤ n .rows
+  pub tilewidth-low : 0 < n .tilewidth
+  pub tilelength-low : 0 < n .tilelength
+
+pub eleven-gives : (n : Numbers) (bitsallowed : Bool) → elevenOf n bitsallowed ≡ kept → Allowed n
+unfolding elevenOf
+eleven-gives n bitsallowed h =
+    let a = kept-cond (not (allows sides (n .width))) 256 _ h in
+    let b = kept-cond (not (allows sides (n .length))) 257 _ (a .1) in
+    let d = kept-cond (not bitsallowed) 258 _ (b .1) in
+    let e = kept-cond (not (allows codings (n .compression))) 259 _ (d .1) in
+    let g = kept-cond (not (allows (between 0 3 ∷ []) (n .photometric))) 262 _ (e .1) in
+    let i = kept-cond (not (allows (between 1 8 ∷ []) (n .samples))) 277 _ (g .1) in
+    let j = kept-cond (not (allows (between 1 more ∷ []) (n .rows))) 278 _ (i .1) in
+    let k = kept-cond (not (allows (just 1 ∷ []) (n .planar))) 284 _ (j .1) in
+    let m = kept-cond (not (sixteens (n .tilewidth))) 322 _ (k .1) in
+    let o = kept-cond (not (sixteens (n .tilelength))) 323 _ (m .1) in
+    let w = in-range 1 1000000 (n .width) (a .0) in
+    let l = in-range 1 1000000 (n .length) (b .0) in
+    record {
+      width-low = w .0;
+      width-high = w .1;
+      length-low = l .0;
+      length-high = l .1;
+      rows-low = in-range 1 more (n .rows) (j .0) .0;
+      tilewidth-low = some-sixteens (n .tilewidth) (m .0);
+      tilelength-low = some-sixteens (n .tilelength) (o .0);
+    }
+
+first-both : (b : Bool) (p : ℕ) (os : List Outcome) → firstOf (breaks b p ∷ os) ≡ kept → (b ≡ false) × (firstOf os ≡ kept)
+unfolding firstOf
+first-both true p os h = (cc, cc)
+first-both false p os h = (refl, h)
+
+-- rule 12 kept
+pub record Agreed (n : Numbers) (tiled : Bool) (offsets bytecounts : ℕ) : Type 0 where
+  pub offsets-are : offsets ≡ countOfPieces n tiled
+  pub byte-counts-are : bytecounts ≡ countOfPieces n tiled
+
+pub twelve-gives : (n : Numbers) (b : Bits) (tiled : Bool) (bitscount offsets bytecounts : ℕ)
+    → twelveOf n b tiled bitscount offsets bytecounts ≡ kept → Agreed n tiled offsets bytecounts
+unfolding twelveOf
+twelve-gives n b tiled bitscount offsets bytecounts h =
+    let pieces = countOfPieces n tiled in
+    let x = first-both (not (eqb bitscount (n .samples)) || not (b .same)) 258 _ h in
+    let y = first-both ((eqb (n .compression) 2 || eqb (n .compression) 32773) && (not (eqb (b .first) 1) || not (eqb (n .samples) 1))) 259 _ (x .1) in
+    let z = first-both (not (eqb offsets pieces)) (cond tiled 324 273) _ (y .1) in
+    let u = first-both (not (eqb bytecounts pieces)) (cond tiled 325 279) [] (z .1) in
+    record { offsets-are = eqb-true _ _ (not-false _ (z .0)); byte-counts-are = eqb-true _ _ (not-false _ (u .0)) }
