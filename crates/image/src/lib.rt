@@ -175,11 +175,9 @@ fn image_laid(file: &[u8], big: bool, at: usize, c: usize) -> Image
     starts[22] = at;
     lens[21] = 8;
     lens[22] = len;
-    let cells = layout::CELLS;
-    let slots = layout::SLOTS;
     let s = layout::scan(
-        &cells,
-        &slots,
+        &layout::CELLS,
+        &layout::SLOTS,
         &file[at..end],
         big,
         at,

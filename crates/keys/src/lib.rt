@@ -531,9 +531,7 @@ pub fn judge_keys(big: bool, directory: &[u8], doubles: &[u8], characters: &[u8]
         };
     }
     let count = order::short(directory, big, 6);
-    let keys = KEYS;
-    let kinds = KINDS;
-    judge_entries(&keys, &kinds, big, directory, doubles, characters, count)
+    judge_entries(&KEYS, &KINDS, big, directory, doubles, characters, count)
 }
 
 // ---- key rows
