@@ -29,6 +29,11 @@ next-fits w k n i h l =
     let m : w * suc i ≤ w * k = mul-le-mul-left w l in
     omega (arith, mul-suc w i)
 
+-- and so does number 0, where there is one
+pub first-fits : (w k n : ℕ) → w * k ≤ n → (k ≡ 0 → ⊥) → w * 0 + w ≤ n
+first-fits w zero n h z = absurd (z refl)
+first-fits w (suc k) n h z = next-fits w (suc k) n 0 h (suc-le-suc zero-le)
+
 -- a place that counts its bytes has some
 some-bytes : (x : ℕ) → eqb x 0 ≡ false → 0 < x
 some-bytes zero h = absurd (eqb-false 0 0 h refl)
@@ -189,74 +194,82 @@ module _ (big : Bool) (a : ℕ) (offsets : List ℕ) (b : ℕ) (bytecounts : Lis
     -- ---- judge_places
 
     module _ (ps : List Part) where
-      -- the places before i keep both rules, and a place from lo up to hi does
-      pub record Going (i lo hi : ℕ) : Type 0 where
-        pub low : 8 ≤ lo
-        pub room : lo ≤ hi
-        pub high : hi ≤ n
-        pub clean : lo < hi → all (clear lo hi) ps ≡ true
-        pub thirteen : rule13 n Places ≡ rule13 n (From i)
-        pub fourteen : rule14 ps Places ≡ rule14 ps (From i)
+      -- no place is there
+      pub places-none : k ≡ 0 → verdict 0 0 ≡ placesJudged n ps Places
+      places-none z =
+          answer-0 n ps Places (ap (rule13 n) from-start ∙ none-13 0 (omega arith) (omega arith) n) (ap (rule14 ps) from-start ∙ none-14 0 (omega arith) (omega arith) ps)
 
-      pub going-start : 8 ≤ n → Going 0 8 8
-      going-start h =
+      -- place `at` was fetched, and the places before it keep both rules
+      pub record Standing (at start len : ℕ) : Type 0 where
+        pub high : at ≤ k
+        pub start-is : at < k → start ≡ num big a offsets (a * at)
+        pub len-is : at < k → len ≡ num big b bytecounts (b * at)
+        pub small : (start < 4294967296) × (len < 4294967296)
+        pub thirteen : rule13 n Places ≡ rule13 n (From at)
+        pub fourteen : rule14 ps Places ≡ rule14 ps (From at)
+
+      pub standing-first : (start len : ℕ) → start ≡ num big a offsets (a * 0) → start < 4294967296 → len ≡ num big b bytecounts (b * 0) → len < 4294967296
+          → Standing 0 start len
+      standing-first start len is-start x is-len y =
           record {
-            low = omega arith;
-            room = omega arith;
-            high = h;
-            clean = λ l. absurd (lt-irrefl 8 l);
+            high = omega arith;
+            start-is = λ l. is-start;
+            len-is = λ l. is-len;
+            small = (x, y);
             thirteen = ap (rule13 n) from-start;
             fourteen = ap (rule14 ps) from-start;
           }
 
-      module _ (i lo hi : ℕ) (g : Going i lo hi) where
-        pub going-end : i ≤ k → k ≤ i → verdict 0 0 ≡ placesJudged n ps Places
-        going-end l m = answer-0 n ps Places (g .thirteen ∙ none-13 i l m n) (g .fourteen ∙ none-14 i l m ps)
+      module _ (at start len : ℕ) (st : Standing at start len) where
+        pub standing-end : k ≤ at → verdict 0 0 ≡ placesJudged n ps Places
+        standing-end m = answer-0 n ps Places (st .thirteen ∙ none-13 at (st .high) m n) (st .fourteen ∙ none-14 at (st .high) m ps)
 
-        -- a search stopped at s
-        module _ (s : Stop) (sk : Skipped big a offsets b bytecounts k lo hi i s) where
-          on-13 : rule13 n Places ≡ rule13 n (From (s .at))
-          on-13 = g .thirteen ∙ sk .thirteen n (g .low) (g .high)
+        module _ (l : at < k) (bad : Bool) (is-bad : bad ≡ eqb len 0 || (ltb start 8 || ltb n (start + len))) where
+          pub standing-bad : bad ≡ true → verdict 13 at ≡ placesJudged n ps Places
+          standing-bad t = answer-13 n ps Places at (st .thirteen ∙ bad-here at l start len (st .start-is l) (st .len-is l) n (sym is-bad ∙ t))
 
-          on-14 : rule14 ps Places ≡ rule14 ps (From (s .at))
-          on-14 = g .fourteen ∙ sk .fourteen ps (g .clean)
+          module _ (ok : bad ≡ false) where
+            rest : (ltb start 8 ≡ false) × (ltb n (start + len) ≡ false)
+            rest = or-false (ltb start 8) _ (or-false (eqb len 0) _ (sym is-bad ∙ ok) .1)
 
-          pub stop-none : k ≤ s .at → verdict 0 0 ≡ placesJudged n ps Places
-          stop-none m = answer-0 n ps Places (on-13 ∙ none-13 (s .at) (sk .high) m n) (on-14 ∙ none-14 (s .at) (sk .high) m ps)
+            pub starts-low : 8 ≤ start
+            starts-low = ltb-false _ _ (rest .0)
 
-          module _ (l : s .at < k) (bad : Bool) (is-bad : bad ≡ eqb (s .len) 0 || (ltb (s .start) 8 || ltb n (s .start + s .len))) where
-            pub stop-bad : bad ≡ true → verdict 13 (s .at) ≡ placesJudged n ps Places
-            stop-bad t = answer-13 n ps Places (s .at) (on-13 ∙ bad-here (s .at) l (s .start) (s .len) (sk .start l) (sk .len l) n (sym is-bad ∙ t))
+            on-next : rule13 n Places ≡ rule13 n (From (at + 1))
+            on-next = st .thirteen ∙ good-here at l start len (st .start-is l) (st .len-is l) n (sym is-bad ∙ ok)
 
-            module _ (ok : bad ≡ false) where
-              rest : (ltb (s .start) 8 ≡ false) × (ltb n (s .start + s .len) ≡ false)
-              rest = or-false (ltb (s .start) 8) _ (or-false (eqb (s .len) 0) _ (sym is-bad ∙ ok) .1)
+            module _ (h : Gap) (f : Found start n ps h) where
+              pub standing-clash : ltb start (h .lo) || ltb (h .hi) (start + len) ≡ true → (v : Verdict)
+                  → v ≡ orElse 13 (rule13 n (From (at + 1))) (verdict 14 at) → v ≡ placesJudged n ps Places
+              standing-clash t v e =
+                  let some-len = some-bytes len (or-false (eqb len 0) _ (sym is-bad ∙ ok) .0) in
+                  answer-14 n ps Places at v
+                  (st .fourteen ∙ clash-here at l start len (st .start-is l) (st .len-is l) ps (f .clash len some-len (ltb-false _ _ (rest .1)) t))
+                  (e ∙ sym (ap (λ (x : Outcome). orElse 13 x (verdict 14 at)) on-next))
 
-              pub starts-low : 8 ≤ s .start
-              starts-low = ltb-false _ _ (rest .0)
+              module _ (t : ltb start (h .lo) || ltb (h .hi) (start + len) ≡ false) where
+                inside : (ltb start (h .lo) ≡ false) × (ltb (h .hi) (start + len) ≡ false)
+                inside = or-false (ltb start (h .lo)) _ t
 
-              on-next : rule13 n Places ≡ rule13 n (From (s .at + 1))
-              on-next = on-13 ∙ good-here (s .at) l (s .start) (s .len) (sk .start l) (sk .len l) n (sym is-bad ∙ ok)
+                pub gap-room : h .lo ≤ h .hi
+                gap-room = omega (arith, ltb-false start (h .lo) (inside .0), ltb-false (h .hi) (start + len) (inside .1))
 
-              module _ (h : Gap) (f : Found (s .start) n ps h) where
-                pub stop-clash : ltb (s .start) (h .lo) || ltb (h .hi) (s .start + s .len) ≡ true → (v : Verdict)
-                    → v ≡ orElse 13 (rule13 n (From (s .at + 1))) (verdict 14 (s .at)) → v ≡ placesJudged n ps Places
-                stop-clash t v e =
-                    let some-len = some-bytes (s .len) (or-false (eqb (s .len) 0) _ (sym is-bad ∙ ok) .0) in
-                    answer-14 n ps Places (s .at) v
-                    (on-14 ∙ clash-here (s .at) l (s .start) (s .len) (sk .start l) (sk .len l) ps (f .clash (s .len) some-len (ltb-false _ _ (rest .1)) t))
-                    (e ∙ sym (ap (λ (x : Outcome). orElse 13 x (verdict 14 (s .at))) on-next))
+                free-next : rule14 ps Places ≡ rule14 ps (From (at + 1))
+                free-next = st .fourteen ∙ free-here at l start len (st .start-is l) (st .len-is l) ps (f .free len t)
 
-                pub stop-free : ltb (s .start) (h .lo) || ltb (h .hi) (s .start + s .len) ≡ false → Going (s .at + 1) (h .lo) (h .hi)
-                stop-free t =
+                -- it is the last
+                pub standing-last : k ≤ at + 1 → verdict 0 0 ≡ placesJudged n ps Places
+                standing-last m =
+                    answer-0 n ps Places (on-next ∙ none-13 (at + 1) (omega arith) m n) (free-next ∙ none-14 (at + 1) (omega arith) m ps)
+
+                -- a search over the later ones stopped at s
+                pub standing-next : (s : Stop) → Skipped big a offsets b bytecounts k (h .lo) (h .hi) (at + 1) s → Standing (s .at) (s .start) (s .len)
+                standing-next s sk =
                     record {
-                      low = f .low;
-                      room = omega (arith, ltb-false (s .start) (h .lo) (inside .0), ltb-false (h .hi) (s .start + s .len) (inside .1));
-                      high = f .high;
-                      clean = λ l. f .clean (inside .0);
-                      thirteen = on-next;
-                      fourteen = on-14 ∙ free-here (s .at) l (s .start) (s .len) (sk .start l) (sk .len l) ps (f .free (s .len) t);
+                      high = sk .high;
+                      start-is = sk .start;
+                      len-is = sk .len;
+                      small = sk .small;
+                      thirteen = on-next ∙ sk .thirteen n (f .low) (f .high);
+                      fourteen = free-next ∙ sk .fourteen ps (λ x. f .clean (inside .0));
                     }
-                  where
-                    inside : (ltb (s .start) (h .lo) ≡ false) × (ltb (h .hi) (s .start + s .len) ≡ false)
-                    inside = or-false (ltb (s .start) (h .lo)) _ t

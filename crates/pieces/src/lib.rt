@@ -206,50 +206,56 @@ pub fn judge_places(
     requires { ⌜ (k < 4294967296) × (width wideoffsets * k ≤ length (now offsets)) × (width widebytecounts * k ≤ length (now bytecounts)) × (m ≤ length (now starts)) × (m ≤ length (now lens)) × Addable (now starts) × Addable (now lens) × (8 ≤ n) × (n ≤ 4294967295) ⌝ }
     ensures { λ r. ⌜ r ≡ placesJudged n (partsOf (now (starts .entry)) (now (lens .entry)) m) (placesOf big (width wideoffsets) (now (offsets .entry)) (width widebytecounts) (now (bytecounts .entry)) k) ⌝ }
 {
-    let mut lo = 8;
-    let mut hi = 8;
-    let mut i = 0;
-    while i < k {
-        let s = skip(
-            offsets,
-            wideoffsets,
-            bytecounts,
-            widebytecounts,
-            big,
-            i,
-            k,
-            lo,
-            hi,
-        );
-        if k <= s.at {
-            return Verdict {
-                number: 0,
-                place: 0,
-            };
-        }
-        if is_bad(s.start, s.len, n) {
+    if k == 0 {
+        return Verdict {
+            number: 0,
+            place: 0,
+        };
+    }
+    let mut at = 0;
+    let mut start = order::element(offsets, big, wideoffsets, 0);
+    let mut len = order::element(bytecounts, big, widebytecounts, 0);
+    while at < k {
+        if is_bad(start, len, n) {
             return Verdict {
                 number: 13,
-                place: s.at as u32,
+                place: at as u32,
             };
         }
-        let g = gap_of(starts, lens, m, n, s.start);
-        if (s.start < g.lo) | (g.hi < s.start + s.len) {
+        let g = gap_of(starts, lens, m, n, start);
+        if (start < g.lo) | (g.hi < start + len) {
             return after_clash(
                 offsets,
                 wideoffsets,
                 bytecounts,
                 widebytecounts,
                 big,
-                s.at + 1,
+                at + 1,
                 k,
                 n,
-                s.at as u32,
+                at as u32,
             );
         }
-        lo = g.lo;
-        hi = g.hi;
-        i = s.at + 1;
+        if k <= at + 1 {
+            return Verdict {
+                number: 0,
+                place: 0,
+            };
+        }
+        let s = skip(
+            offsets,
+            wideoffsets,
+            bytecounts,
+            widebytecounts,
+            big,
+            at + 1,
+            k,
+            g.lo,
+            g.hi,
+        );
+        at = s.at;
+        start = s.start;
+        len = s.len;
     }
     Verdict {
         number: 0,
