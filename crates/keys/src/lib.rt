@@ -514,7 +514,12 @@ fn judge_entries(
             }
         }
     }
-    finish(outcomes::told(sixteen), outcomes::told(seventeen), &found, count)
+    finish(
+        outcomes::told(sixteen),
+        outcomes::told(seventeen),
+        &found,
+        count,
+    )
 }
 
 // Rules 15 to 19 over the values of 34735, 34736 and 34737; an absent tag is an empty run.

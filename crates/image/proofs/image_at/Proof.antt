@@ -21,7 +21,7 @@ image-laid-requires : tie.Need-image-laid-requires
 image-laid-requires c κs = record { head = c .before .before .before .before .before .pre; count = sym (c .before .before .before .«open» .ensures) ∙ c .before .o2 .given .1 }
 
 returns : tie.Need-returns
-returns c = 
+returns c =
     c .no-image .ensures
     ∙ opened-bad _ (c .before .before .before .before .before .before .pre) (sym (c .before .before .before .before .«open» .ensures) ∙ c .before .before .o .given .1)
 

@@ -41,7 +41,7 @@ part-scan-end c = omega (arith, sums (c .before .before .before .pre))
 
 scan-requires : tie.Need-scan-requires
 unfolding typColumn countColumn startColumn lenColumn column fieldOf tags table cellTags cellSlots
-scan-requires c κs = 
+scan-requires c κs =
     let a = scan-asked (c .before .before .before .before .before .before .before .before .pre) in
     (a .0, a .1, a .2, a .3, a .4, refl, refl, refl, refl, refl, refl)
 
@@ -49,7 +49,7 @@ no-image-requires : tie.Need-no-image-requires
 no-image-requires c κs = search needs
 
 returns : tie.Need-returns
-returns c = 
+returns c =
     let o = c .before .before .before .before .before .before .before .before .before .before .before .before .pre in
     let s = rw (part-cut o) at (c .before .before .before .scan .ensures) in
     c .no-image .ensures ∙ scan-bad o (s .0) (c .before .if1 .taken)
@@ -58,19 +58,19 @@ no-image-requires-2 : tie.Need-no-image-requires-2
 no-image-requires-2 c κs = search needs
 
 returns-2 : tie.Need-returns-2
-returns-2 c = 
+returns-2 c =
     let o = c .before .before .before .before .before .before .before .before .before .before .before .before .before .before .pre in
     let s = rw (part-cut o) at (c .before .before .before .before .before .scan .ensures) in
     c .no-image2 .ensures ∙ next-bad o (s .0) (c .before .before .before .if1 .left) (c .before .if2 .taken)
 
 image-columns-requires : tie.Need-image-columns-requires
-image-columns-requires c κs = 
+image-columns-requires c κs =
     let o = c .before .before .before .before .before .before .before .before .before .before .before .before .before .before .before .before .before .pre in
     let s = rw (part-cut o) at (c .before .before .before .before .before .before .before .before .scan .ensures) in
     scan-passed o (s .0) (c .before .before .before .before .before .before .if1 .left) (s .1 .0) (s .1 .1 .0) (s .1 .1 .1 .0) (s .1 .1 .1 .1)
 
 returns-3 : tie.Need-returns-3
-returns-3 c = 
+returns-3 c =
     let o = c .before .before .before .before .before .before .before .before .before .before .before .before .before .before .before .before .before .before .pre in
     let s = rw (part-cut o) at (c .before .before .before .before .before .before .before .before .before .scan .ensures) in
     c .image-columns .ensures ∙ scan-good o (s .0) (c .before .before .before .before .before .before .before .if1 .left) (c .before .before .before .before .before .if2 .left)

@@ -51,12 +51,12 @@ cast-after-clash : tie.Need-cast-after-clash Inv-loop μ-loop
 cast-after-clash c = omega arith
 
 after-clash-requires : tie.Need-after-clash-requires Inv-loop μ-loop
-after-clash-requires c κs = 
+after-clash-requires c κs =
     let p = c .before .before .before .before .before .before .before .before .before .before .before .before .before .before .before .pre in
     (omega arith, p .0, p .1, p .2, p .7, p .8)
 
 returns-3 : tie.Need-returns-3 Inv-loop μ-loop
-returns-3 c = 
+returns-3 c =
     let s = c .before .before .before .before in
     let l = s .before .before .before .before in
     standing-clash _ _ _ _ _ _ _ _ _ _ _ (l .loop .inv) (s .before .before .before .loop-test .taken) _ (s .before .before .is-bad .ensures)
@@ -66,7 +66,7 @@ add-if4 : tie.Need-add-if4 Inv-loop μ-loop
 add-if4 c = omega arith
 
 returns-4 : tie.Need-returns-4 Inv-loop μ-loop
-returns-4 c = 
+returns-4 c =
     let s = c .before .before .before .before in
     let l = s .before .before .before .before in
     standing-last _ _ _ _ _ _ _ _ _ _ _ (l .loop .inv) (s .before .before .before .loop-test .taken) _ (s .before .before .is-bad .ensures)
@@ -76,7 +76,7 @@ add-skip : tie.Need-add-skip Inv-loop μ-loop
 add-skip c = omega arith
 
 skip-requires : tie.Need-skip-requires Inv-loop μ-loop
-skip-requires c κs = 
+skip-requires c κs =
     let s = c .before .before .before .before in
     let l = s .before .before .before .before in
     let p = c .before .before .before .before .before .before .before .before .before .before .before .before .before .before .before .before .pre in
@@ -88,7 +88,7 @@ loop-less : tie.Need-loop-less Inv-loop μ-loop
 loop-less c = search needs
 
 loop-again : tie.Need-loop-again Inv-loop μ-loop
-loop-again c = 
+loop-again c =
     let s = c .before .before .before .before .before in
     let l = s .before .before .before .before in
     standing-next _ _ _ _ _ _ _ _ _ _ _ (l .loop .inv) (s .before .before .before .loop-test .taken) _ (s .before .before .is-bad .ensures)
