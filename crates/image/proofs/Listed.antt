@@ -9,7 +9,7 @@ use lib.Dec.{eqb, leb, ltb}
 use lib.ListN.{getD}
 use borrow.Author.Tests.{eqb-true, eqb-false, eq-eqb, ne-eqb, ltb-true, ltb-false, lt-ltb, le-ltb, leb-true, le-leb, not-true}
 use Rattle.paper.specs.Bytes.{num, build}
-use Rattle.paper.specs.Outcome.{ascending, ascendingFrom, first, _▸_}
+use Rattle.paper.specs.Outcome.{ascending, ascendingFrom, first, _▸_, ordered, orderedFrom}
 use Rattle.paper.specs.declared.Outcome.{Outcome}
 use Rattle.paper.specs.declared.Outcome.the-variants.{Kept as kept, Broken as broken}
 use Rattle.paper.specs.Tests.{all, some, keep}
@@ -30,7 +30,7 @@ use Rattle.paper.specs.declared.Entry.{Entry}
 -- ---- an entry's tag does not come again
 
 absent-above : (field : Entry → ℕ) (a t : ℕ) (es : List Entry) → t ≤ a → ascendingFrom a (map (λ e. e .tag) es) ≡ kept → fieldOf field t es ≡ 0
-unfolding fieldOf ascendingFrom
+unfolding fieldOf orderedFrom
 absent-above field a t [] l h = refl
 absent-above field a t (e ∷ es) l h = go (ltb a (e .tag)) refl (λ k. absent-above field (e .tag) t es k)
   where
@@ -114,7 +114,7 @@ module _ (is : Part → Bool) (none : (s : ℕ) → is (part s 0) ≡ false) whe
   in-tags x = refl
 
   ascending-tail : (e : Entry) (es : List Entry) → ascendingFrom (e .tag) (map (λ x. x .tag) es) ≡ kept → ascending (map (λ x. x .tag) es) ≡ kept
-  unfolding ascending ascendingFrom
+  unfolding ordered orderedFrom
   ascending-tail e [] h = refl
   ascending-tail e (x ∷ es) h = go (ltb (e .tag) (x .tag)) refl
     where
@@ -123,7 +123,7 @@ module _ (is : Part → Bool) (none : (s : ℕ) → is (part s 0) ≡ false) whe
       go false q = let w : broken (x .tag) ≡ kept = rw q at h in cc
 
   values-are : (es : List Entry) → ascending (map (λ x. x .tag) es) ≡ kept → all untyped es ≡ true → some (At es) tags ≡ some (listedIs table is) es
-  unfolding some all ascending fieldOf listed
+  unfolding some all ordered fieldOf listed
   values-are [] h u = none-of tags
     where
       none-of : (ts : List ℕ) → some (At []) ts ≡ false

@@ -7,7 +7,7 @@ use mathlib.Core.List.{List, [], _∷_}
 use lib.Dec.{eqb, ltb}
 use lib.ListN.{getD, List·getD-map}
 use borrow.Author.Tests.{eqb-true, ne-eqb, lt-ltb, le-ltb}
-use Rattle.paper.specs.Outcome.{ascending, ascendingFrom}
+use Rattle.paper.specs.Outcome.{ascending, ascendingFrom, ordered, orderedFrom}
 use Rattle.paper.specs.Tests.{all}
 use Rattle.paper.specs.Keys.{Known, known, knownKeys, kindIn, kindOf, otherKind}
 use Rattle.paper.specs.declared.Outcome.the-variants.{Kept as kept}
@@ -15,7 +15,7 @@ use Rattle.paper.proofs.Laws.{and-eq, all-at}
 use Rattle.keys.specs.Table.{keyNumbers, keyKinds, slotOf}
 
 pub sorted : ascending keyNumbers ≡ kept
-unfolding ascending ascendingFrom keyNumbers knownKeys
+unfolding ordered orderedFrom keyNumbers knownKeys
 sorted = refl
 
 -- each entry has its key's kind

@@ -11,7 +11,7 @@ use lib.ListN.{length, set}
 use lib.Seq.{set-out}
 use borrow.Author.Tests.{lt-ltb, eqb-true, ne-eqb}
 use Rattle.paper.specs.Bytes.{build}
-use Rattle.paper.specs.Outcome.{ascending, firstBad, first}
+use Rattle.paper.specs.Outcome.{ascending, firstBad, first, ordered}
 use Rattle.paper.specs.Tests.{all}
 use Rattle.paper.specs.Key
 use Rattle.paper.specs.Keys.{Runs, shortKind, knownKeys, kindIn, kindOf, short, keyAt, room, rightPlace, misplaced, rule16, rule17, keyValue}
@@ -38,7 +38,7 @@ pub record Seen (r : Runs) (ks : List KeyEntry) (sixteen seventeen next : ℕ) (
 
 module _ (r : Runs) where
   none-seen : Seen r [] none none none (none ∷ none ∷ none ∷ none ∷ none ∷ none ∷ none ∷ [])
-  unfolding toldBy rule16 ascending rule17 firstBad front held all
+  unfolding toldBy rule16 ordered rule17 firstBad front held all
   none-seen = record { rises = refl; placed = refl; after = refl; numbers = refl; small = refl }
 
   module _ (es : List KeyEntry) (a b n : ℕ) (f : List ℕ) (seen : Seen r es a b n f) (e : KeyEntry) (low : e .key < 65536) (low′ : e .index < 65536) where

@@ -10,7 +10,7 @@ use lib.Dec.{leb}
 use lib.ListN.{length, set}
 use lib.Seq.{set-out, set-append-left}
 use Rattle.paper.specs.Bytes.{num, build}
-use Rattle.paper.specs.Outcome.{ascending, firstBad, first, orElse, verdict}
+use Rattle.paper.specs.Outcome.{ascending, firstBad, first, orElse, verdict, ordered}
 use Rattle.paper.specs.declared.Outcome.{Outcome}
 use Rattle.paper.specs.declared.Verdict.{Verdict}
 use Rattle.paper.specs.declared.Entry.{Entry}
@@ -87,7 +87,7 @@ pub record Seen (n : ℕ) (es : List Entry) (six seven next : ℕ) : Type 0 wher
   pub after : next ≡ front (map (λ e. e .tag) es)
 
 none-seen : (n : ℕ) → Seen n [] 65536 65536 65536
-unfolding toldBy rule6 ascending rule7 firstBad front
+unfolding toldBy rule6 ordered rule7 firstBad front
 none-seen n = record { rises = refl; fits = refl; after = refl }
 
 seen-front : (n : ℕ) (es : List Entry) (six seven next : ℕ) (e : Entry) → Seen n es six seven next → e .tag < 65536

@@ -9,7 +9,7 @@ use lib.Dec.{eqb, ltb}
 use lib.ListN.{length}
 use borrow.Author.Tests.{eqb-true, eqb-false, ltb-true, not-true}
 use Rattle.paper.specs.Bytes.{build}
-use Rattle.paper.specs.Outcome.{Outcome, kept, broken, breaks, firstOf, Fault, firstThere, firstBad, ascendingFrom, ascending, Rule, first, verdict}
+use Rattle.paper.specs.Outcome.{Outcome, kept, broken, breaks, firstOf, Fault, firstThere, firstBad, ascendingFrom, ascending, Rule, first, verdict, ordered, orderedFrom}
 use Rattle.paper.specs.Tests.{all}
 use Rattle.paper.specs.Layout.{rule1, rule2, rule3, rule4, rule5, rule6, rule7, rule8}
 use Rattle.paper.specs.Tags.{Held, table, tiled, disagreements, rule27, rule9, rule10, rule11, rule12}
@@ -17,7 +17,7 @@ use Rattle.paper.specs.Pieces.{Piece, placeAt, placesOf, pieces, rule13,
 use Rattle.paper.specs.Keys.{fixedKeys, rule15, rule16, rule17, rule18, rule19}
 use Rattle.paper.specs.Ground.{rule20, rule21, rule22}
 use Rattle.paper.specs.Judge.{View, headOf, headIn, viewAt, view, piecesOf, verdictOf, rules}
-use Rattle.paper.specs.Places.{In, FirstFault, Lowest, FirstPiece, LowestFault, pairsFrom, pairs, notGreater, FirstFall, placeless, Places, Placed}
+use Rattle.paper.specs.Places.{In, FirstFault, Lowest, FirstPiece, LowestFault, pairsFrom, pairs, outOfOrder, FirstFall, placeless, Places, Placed}
 use Rattle.paper.proofs.Laws.{and-eq}
 use Rattle.paper.proofs.First.{verdict-rules, ruled}
 use Rattle.paper.proofs.Tables.{table-order, fixed-order}
@@ -96,7 +96,7 @@ module _ {A : Type 0} (bad : A → Bool) (place : A → ℕ) where
   -- ---- the lowest at fault, where the places ascend
 
   ascending-more : (x : A) (xs : List A) → ascending (map place (x ∷ xs)) ≡ kept → ascending (map place xs) ≡ kept
-  unfolding ascending ascendingFrom
+  unfolding ordered orderedFrom
   ascending-more x [] h = refl
   ascending-more x (y ∷ xs) h = go (ltb (place x) (place y)) refl
     where
@@ -105,7 +105,7 @@ module _ {A : Type 0} (bad : A → Bool) (place : A → ℕ) where
       go false e = let w : broken (place y) ≡ kept = rw e at h in cc
 
   ascending-in : (a : ℕ) (xs : List A) → ascendingFrom a (map place xs) ≡ kept → (x : A) → In x xs → a < place x
-  unfolding ascendingFrom
+  unfolding orderedFrom
   ascending-in a [] h = λ x i. absurd (in-none x i)
   ascending-in a (y ∷ xs) h = go (ltb a (place y)) refl (ascending-in (place y) xs)
     where
@@ -118,7 +118,7 @@ module _ {A : Type 0} (bad : A → Bool) (place : A → ℕ) where
       go false e r = let w : broken (place y) ≡ kept = rw e at h in absurd (false≢true cc)
 
   pub lowest : (xs : List A) (p : ℕ) → ascending (map place xs) ≡ kept → FirstFault bad place xs p → Lowest bad place xs p
-  unfolding ascending
+  unfolding ordered
   lowest xs p h w =
       record {
         it = w .it;
@@ -164,21 +164,21 @@ faults-first (x ∷ xs) = go (x .there) refl (faults-first xs)
 pub lowest-fault : (xs : List Fault) (p : ℕ) → ascending (map (λ x. x .place) xs) ≡ kept → firstThere xs ≡ broken p → LowestFault xs p
 lowest-fault xs p a h = lowest _ _ xs p a (first-fault _ _ xs p (sym (faults-first xs) ∙ h))
 
--- numbers that do not ascend
-falls-first : (a : ℕ) (bs : List ℕ) → ascendingFrom a bs ≡ firstBad notGreater (λ x. x .later) (pairsFrom a bs)
-unfolding ascendingFrom firstBad notGreater pairsFrom
-falls-first a [] = refl
-falls-first a (b ∷ bs) = go (ltb a b) refl (falls-first b bs)
+-- numbers that do not follow each other
+falls-first : (follows : ℕ → ℕ → Bool) (a : ℕ) (bs : List ℕ) → orderedFrom follows a bs ≡ firstBad (outOfOrder follows) (λ x. x .later) (pairsFrom a bs)
+unfolding orderedFrom firstBad outOfOrder pairsFrom
+falls-first follows a [] = refl
+falls-first follows a (b ∷ bs) = go (follows a b) refl (falls-first follows b bs)
   where
-    go : (t : Bool) → ltb a b ≡ t → ascendingFrom b bs ≡ firstBad notGreater (λ x. x .later) (pairsFrom b bs)
-        → ascendingFrom a (b ∷ bs) ≡ firstBad notGreater (λ x. x .later) (pairsFrom a (b ∷ bs))
+    go : (t : Bool) → follows a b ≡ t → orderedFrom follows b bs ≡ firstBad (outOfOrder follows) (λ x. x .later) (pairsFrom b bs)
+        → orderedFrom follows a (b ∷ bs) ≡ firstBad (outOfOrder follows) (λ x. x .later) (pairsFrom a (b ∷ bs))
     go true e r = rw e r
     go false e r = rw e
 
-pub first-fall : (ns : List ℕ) (p : ℕ) → ascending ns ≡ broken p → FirstFall ns p
-unfolding ascending pairs
-first-fall [] p h = absurd (false≢true cc)
-first-fall (a ∷ bs) p h = first-fault notGreater _ (pairsFrom a bs) p (sym (falls-first a bs) ∙ h)
+pub first-fall : (follows : ℕ → ℕ → Bool) (ns : List ℕ) (p : ℕ) → ordered follows ns ≡ broken p → FirstFall follows ns p
+unfolding ordered pairs
+first-fall follows [] p h = absurd (false≢true cc)
+first-fall follows (a ∷ bs) p h = first-fault (outOfOrder follows) _ (pairsFrom a bs) p (sym (falls-first follows a bs) ∙ h)
 
 -- ---- from the verdict to the rule that has its number
 
@@ -244,7 +244,7 @@ tags-12 big hs = go (tiled hs) refl
     go false e = rw e
 
 order-12 : (b : Bool) → ascending (258 ∷ 259 ∷ cond b (324 ∷ 325 ∷ []) (273 ∷ 279 ∷ [])) ≡ kept
-unfolding ascending ascendingFrom
+unfolding ordered orderedFrom
 order-12 true = refl
 order-12 false = refl
 
@@ -282,11 +282,11 @@ module _ (f : List ℕ) where
       ⊹ (λ k i. absurd (in-none k i))
 
   pub places : Places f
-  unfolding opened rule6 rule7 rule9 rule10 rule11 rule12 rule13 rule14 rule16 rule17 rule18 rule19 rule21 ascending ascendingFrom
+  unfolding opened rule6 rule7 rule9 rule10 rule11 rule12 rule13 rule14 rule16 rule17 rule18 rule19 rule21 ordered orderedFrom
   places =
       record {
         ungiven = ungiven-zero;
-        at6 = λ p h. first-fall _ p (outcome 6 p refl h);
+        at6 = λ p h. first-fall ltb _ p (outcome 6 p refl h);
         at7 = λ p h. first-fault _ _ _ p (outcome 7 p refl h);
         at9 = λ p h. lowest _ _ table p table-order (first-fault _ _ _ p (outcome 9 p refl h));
         at10 = λ p h. lowest _ _ table p table-order (first-fault _ _ _ p (outcome 10 p refl h));
@@ -295,7 +295,7 @@ module _ (f : List ℕ) where
         tags12 = tags-12 (headIn f .big) (view f .held);
         at13 = λ p h. first-piece _ (view f) p (outcome 13 p refl h);
         at14 = λ p h. first-piece _ (view f) p (outcome 14 p refl h);
-        at16 = λ p h. first-fall _ p (outcome 16 p refl h);
+        at16 = λ p h. first-fall ltb _ p (outcome 16 p refl h);
         at17 = λ p h. first-fault _ _ _ p (outcome 17 p refl h);
         at18 = λ p h. lowest-fault _ p refl (outcome 18 p refl h);
         keys18 = refl;

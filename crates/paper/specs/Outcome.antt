@@ -37,14 +37,21 @@ unfoldable pub firstBad : {A : Type 0} → (A → Bool) → (A → ℕ) → List
 firstBad bad place [] = kept
 firstBad bad place (x ∷ xs) = cond (bad x) (broken (place x)) (firstBad bad place xs)
 
--- each number is greater than the one before; broken at the later of the first pair where it is not
-unfoldable pub ascendingFrom : ℕ → List ℕ → Outcome
-ascendingFrom a [] = kept
-ascendingFrom a (b ∷ bs) = cond (ltb a b) (ascendingFrom b bs) (broken b)
+-- each number follows the one before it; broken at the later of the first pair where it does not
+unfoldable pub orderedFrom : (ℕ → ℕ → Bool) → ℕ → List ℕ → Outcome
+orderedFrom follows a [] = kept
+orderedFrom follows a (b ∷ bs) = cond (follows a b) (orderedFrom follows b bs) (broken b)
 
-unfoldable pub ascending : List ℕ → Outcome
-ascending [] = kept
-ascending (b ∷ bs) = ascendingFrom b bs
+unfoldable pub ordered : (ℕ → ℕ → Bool) → List ℕ → Outcome
+ordered follows [] = kept
+ordered follows (b ∷ bs) = orderedFrom follows b bs
+
+-- each number is greater than the one before
+abbrev pub ascendingFrom : ℕ → List ℕ → Outcome
+ascendingFrom a bs = orderedFrom ltb a bs
+
+abbrev pub ascending : List ℕ → Outcome
+ascending ns = ordered ltb ns
 
 -- ---- rules in order, each with its number
 

@@ -67,12 +67,12 @@ unfoldable pub pairs : List ℕ → List Pair
 pairs [] = []
 pairs (a ∷ bs) = pairsFrom a bs
 
-unfoldable pub notGreater : Pair → Bool
-notGreater x = not (ltb (x .earlier) (x .later))
+unfoldable pub outOfOrder : (ℕ → ℕ → Bool) → Pair → Bool
+outOfOrder follows x = not (follows (x .earlier) (x .later))
 
--- the later number of the first pair where it is not greater than the earlier
-abbrev pub FirstFall : List ℕ → ℕ → Type 0
-FirstFall ns p = FirstFault notGreater (λ x. x .later) (pairs ns) p
+-- the later number of the first pair where it does not follow the earlier
+abbrev pub FirstFall : (ℕ → ℕ → Bool) → List ℕ → ℕ → Type 0
+FirstFall follows ns p = FirstFault (outOfOrder follows) (λ x. x .later) (pairs ns) p
 
 -- ---- the place of each rule
 
@@ -88,7 +88,7 @@ pub record Places (f : List ℕ) : Type 0 where
   -- the place is 0 unless given
   pub ungiven : (k : ℕ) → In k placeless → Placed f k (λ p. p ≡ 0)
   -- a tag not greater than the one before: the later tag of the first such pair
-  pub at6 : Placed f 6 (FirstFall (map (λ e. e .tag) (entriesIn f (headIn f))))
+  pub at6 : Placed f 6 (FirstFall ltb (map (λ e. e .tag) (entriesIn f (headIn f))))
   -- a wrong count or offset: the first such tag
   pub at7 : Placed f 7 (FirstFault (badValue (length f)) (λ e. e .tag) (entriesIn f (headIn f)))
   -- a needed tag absent; another type or count; a value not allowed: the lowest tag
@@ -103,7 +103,7 @@ pub record Places (f : List ℕ) : Type 0 where
   pub at13 : Placed f 13 (FirstPiece (badPiece (length f)) (piecesOf (view f)))
   pub at14 : Placed f 14 (FirstPiece (touches (fullOf (view f))) (piecesOf (view f)))
   -- a key not greater than the one before: the later key of the first such pair
-  pub at16 : Placed f 16 (FirstFall (map (λ e. e .key) (keys (runsOf (view f)))))
+  pub at16 : Placed f 16 (FirstFall ltb (map (λ e. e .key) (keys (runsOf (view f)))))
   -- a wrong location, count or value index: the first such key
   pub at17 : Placed f 17 (FirstFault (misplaced (runsOf (view f))) (λ e. e .key) (keys (runsOf (view f))))
   -- a needed key absent, of 1024, 1025, 2048 and 3072: the lowest
