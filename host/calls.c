@@ -1,9 +1,9 @@
 /* calls I J: asks every call of petalbuzz.h about the file on standard input
  * and prints the answers; then again with a null pointer in each place of a run
  * or of room, with a length beside it that must not count. I and J are column
- * and row of the second corner. A corner that is not where the header says and
- * a name that has not its number get a line of their own. It is C and C++
- * alike. */
+ * and row of the second corner. A corner that is not where the header says, a
+ * name that has not its number, and a lent run that has changed get a line of
+ * their own. It is C and C++ alike. */
 #include "../include/petalbuzz.h"
 #include <stdio.h>
 #include <stdlib.h>
@@ -12,7 +12,8 @@
 
 enum { ROWS = 257, UNTOUCHED = 0x77 };
 
-static uint8_t file[1 << 16], out[1 << 16];
+static uint8_t file[1 << 16], as_read[sizeof file], out[1 << 16];
+static char outside[] = "outside";
 static size_t len;
 static petalbuzz_row rows[ROWS];
 
@@ -25,7 +26,7 @@ static const uint32_t verdicts[] = {
     PETALBUZZ_KEY_HEADER, PETALBUZZ_KEY_ORDER, PETALBUZZ_KEY_FORM, PETALBUZZ_KEY_ABSENT,
     PETALBUZZ_KEY_VALUE, PETALBUZZ_NO_GEOREFERENCE, PETALBUZZ_GEOREFERENCE, PETALBUZZ_CORNER,
     PETALBUZZ_FEW_ROWS, PETALBUZZ_BLOCK_INDEX, PETALBUZZ_BLOCK_ROOM, PETALBUZZ_NO_CITATION,
-    PETALBUZZ_FAMILIES,
+    PETALBUZZ_FAMILIES, 28 /* has no name */, PETALBUZZ_NO_TEXT,
 };
 static const uint32_t kinds[] = {
     PETALBUZZ_SHORT, PETALBUZZ_DOUBLE, PETALBUZZ_ASCII, PETALBUZZ_OTHER,
@@ -104,12 +105,19 @@ static void ask_blocks(void) {
     ask_block(file, 0, sizeof out);
 }
 
+/* The metadata texts of some numbers, beside a run of 7 bytes or none. */
+static void ask_metadata(const char *beside) {
+    static const uint32_t numbers[] = {0, 1, 2, 3, 4294967295};
+    for (size_t i = 0; i < sizeof numbers / sizeof numbers[0]; i++)
+        print_part("metadata", petalbuzz_metadata_file(file, len, beside, 7, numbers[i]));
+}
+
 static void ask_texts(void) {
     static const uint32_t keys[] = {1024, 1026, 2049, 3073, 4097, 65536 + 1026};
     for (size_t i = 0; i < sizeof keys / sizeof keys[0]; i++)
         print_part("citation", petalbuzz_citation_file(file, len, keys[i]));
-    print_part("metadata", petalbuzz_metadata_file(file, len, "outside", 7));
-    print_part("metadata", petalbuzz_metadata_file(file, len, 0, 7));
+    ask_metadata(outside);
+    ask_metadata(0);
 }
 
 /* Every call on a null pointer for the file: an empty file. */
@@ -117,7 +125,9 @@ static void ask_nothing(void) {
     ask_ground(0);
     ask_rows(0, rows, ROWS);
     print_part("citation", petalbuzz_citation_file(0, len, 1026));
-    print_part("metadata", petalbuzz_metadata_file(0, len, "outside", 7));
+    print_part("metadata", petalbuzz_metadata_file(0, len, outside, 7, 0));
+    print_part("metadata", petalbuzz_metadata_file(0, len, outside, 7, 1));
+    print_part("metadata", petalbuzz_metadata_file(0, len, 0, 7, 0));
     ask_block(0, out, sizeof out);
 }
 
@@ -125,6 +135,7 @@ int main(int argc, char **argv) {
     ssize_t n = read(0, file, sizeof file);
     if (n < 0 || argc != 3) return 2;
     len = (size_t)n;
+    memcpy(as_read, file, sizeof file);
     check_names(verdicts, sizeof verdicts / sizeof verdicts[0]);
     check_names(kinds, sizeof kinds / sizeof kinds[0]);
     petalbuzz_grounded a = ask_ground(file);
@@ -136,5 +147,7 @@ int main(int argc, char **argv) {
     ask_texts();
     ask_blocks();
     ask_nothing();
+    if (memcmp(file, as_read, sizeof file) != 0) printf("the file has changed\n");
+    if (strcmp(outside, "outside") != 0) printf("the outside text has changed\n");
     return 0;
 }

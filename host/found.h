@@ -9,6 +9,7 @@
 #include "words.h"
 
 enum { MOST_KEYS = 256, MODEL_TYPE = 1024, RASTER_TYPE = 1025 };
+enum { MOST_TEXTS = 1024 }; /* a directory has no more entries */
 enum { DOUBLES = 34736, CHARACTERS = 34737 }; /* locations */
 
 /* A value: numbers of 2 bytes, doubles, or a text, as they stand in the file. */
@@ -29,7 +30,8 @@ struct found {
     petalbuzz_row rows[MOST_KEYS];
     struct value values[MOST_KEYS];
     petalbuzz_part citations[MOST_KEYS]; /* of the keys of kind ASCII */
-    petalbuzz_part metadata;
+    uint32_t texts;
+    petalbuzz_part metadata[MOST_TEXTS]; /* the metadata texts of the file by their numbers */
     int is_big; /* the byte order */
     uint32_t raster; /* the value of key 1025 */
 };
@@ -106,6 +108,18 @@ static int find_citation(const struct whole *file, struct found *f, uint32_t i) 
     return text->verdict == 0;
 }
 
+/* Asks for every metadata text of the file, by number, until there is none of a number
+ * or it is the outside text. Answers whether the file is still accepted. */
+static int find_texts(const struct whole *file, struct found *f) {
+    for (f->texts = 0; f->texts < MOST_TEXTS; f->texts++) {
+        petalbuzz_part *text = &f->metadata[f->texts];
+        *text = petalbuzz_metadata_file(file->bytes, file->len, NULL, 0, f->texts);
+        if (text->verdict == PETALBUZZ_NO_TEXT || text->from != 0) return 1;
+        if (text->verdict != 0) return 0;
+    }
+    return 0;
+}
+
 /* Asks the library all that is told of a file. Answers null, or why the file is
  * not read: a later call disagrees with the first. */
 static const char *look(const struct whole *file, struct found *f) {
@@ -113,8 +127,7 @@ static const char *look(const struct whole *file, struct found *f) {
     say(f->sentence, f->ground.verdict, f->ground.place);
     if (f->ground.verdict != 0) return NULL;
     petalbuzz_counted counted = petalbuzz_rows_file(file->bytes, file->len, f->rows, MOST_KEYS);
-    f->metadata = petalbuzz_metadata_file(file->bytes, file->len, NULL, 0);
-    if (counted.verdict != 0 || f->metadata.verdict != 0) return changed;
+    if (counted.verdict != 0 || !find_texts(file, f)) return changed;
     f->keys = counted.keys;
     f->is_big = *(const uint8_t *)file->bytes == 'M';
     f->raster = 0;

@@ -31,13 +31,13 @@ static int judge_path(const char *path) {
  * lent bytes again, as they are after the call. What a call fails to write
  * in the record keeps the byte 0xA5. */
 
-/* The numbers of the head: which call; the key asked for; the bytes at either
- * end of the memory that are not lent; the length of the memory and of each
- * run. */
-enum { CALL, KEY, MARGIN, MEMORY, RUN, HEAD = RUN + 3 };
+/* The numbers of the head: which call; the key of the citation or the number
+ * of the metadata text that is asked for; the bytes at either end of the memory
+ * that are not lent; the length of the memory and of each run. */
+enum { CALL, ASKED, MARGIN, MEMORY, RUN, HEAD = RUN + 3 };
 
 struct question {
-    uint32_t key;
+    uint32_t asked;
     uint8_t *out;
     size_t room;
     const uint8_t *run[3];
@@ -70,13 +70,13 @@ static void ask_rows(const struct question *q, struct record *r) {
 }
 
 static void ask_citation(const struct question *q, struct record *r) {
-    petalbuzz_citation(q->run[0], q->len[0], q->key, &r->verdict, &r->place, &r->wide.sizes[0],
+    petalbuzz_citation(q->run[0], q->len[0], q->asked, &r->verdict, &r->place, &r->wide.sizes[0],
                        &r->wide.sizes[1]);
 }
 
 static void ask_metadata(const struct question *q, struct record *r) {
-    petalbuzz_metadata(q->run[0], q->len[0], q->run[1], q->len[1], &r->verdict, &r->place,
-                       &r->third, &r->wide.sizes[0], &r->wide.sizes[1]);
+    petalbuzz_metadata(q->run[0], q->len[0], q->run[1], q->len[1], q->asked, &r->verdict,
+                       &r->place, &r->third, &r->wide.sizes[0], &r->wide.sizes[1]);
 }
 
 static void ask_key_block(const struct question *q, struct record *r) {
@@ -140,7 +140,7 @@ static int lend(const uint8_t *bytes, size_t n) {
 
 /* Asks the call on the lent bytes: first the memory, then the runs. */
 static void ask(const uint32_t head[HEAD], struct record *record) {
-    struct question q = {.key = head[KEY], .out = lent + head[MARGIN]};
+    struct question q = {.asked = head[ASKED], .out = lent + head[MARGIN]};
     const uint8_t *next = lent + head[MEMORY];
     q.room = head[MEMORY] - 2 * (size_t)head[MARGIN];
     for (int i = 0; i < 3; i++) {

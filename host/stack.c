@@ -24,6 +24,7 @@ static uint8_t painted[DEPTH] __attribute__((aligned(16)));
 static const uint8_t *file;
 static size_t len;
 static const uint8_t outside[] = "outside";
+static uint32_t number; /* of the metadata text that is asked for */
 static petalbuzz_row rows[ROWS];
 static uint8_t out[1 << 20];
 static petalbuzz_judged judged;
@@ -45,8 +46,8 @@ static void cite(void) {
     petalbuzz_citation(file, len, 1026, &part.verdict, &part.place, &part.start, &part.length);
 }
 static void text(void) {
-    petalbuzz_metadata(file, len, outside, sizeof outside, &part.verdict, &part.place, &part.from,
-                       &part.start, &part.length);
+    petalbuzz_metadata(file, len, outside, sizeof outside, number, &part.verdict, &part.place,
+                       &part.from, &part.start, &part.length);
 }
 static void write_block(void) {
     petalbuzz_key_block(file, len, out, sizeof out, &block.verdict, &block.place, block.lengths);
@@ -61,7 +62,7 @@ static void ground_file(void) { grounded = petalbuzz_ground_file(file, len); }
 static void fill_file(void) { counted = petalbuzz_rows_file(file, len, rows, ROWS); }
 static void cite_file(void) { part = petalbuzz_citation_file(file, len, 1026); }
 static void text_file(void) {
-    part = petalbuzz_metadata_file(file, len, outside, sizeof outside);
+    part = petalbuzz_metadata_file(file, len, outside, sizeof outside, number);
 }
 static void write_block_file(void) {
     block = petalbuzz_key_block_file(file, len, out, sizeof out);
@@ -125,10 +126,11 @@ static int measure(const char *path) {
     file = petalbuzz_lent(map, &len);
     block = petalbuzz_key_block_file(file, len, out, sizeof out);
     one = block.lengths[0], two = block.lengths[1], three = block.lengths[2];
-    for (size_t i = 0; i < CALLS; i++) {
-        size_t depth = depth_of(calls[i].run);
-        if (depth > calls[i].most) calls[i].most = depth;
-    }
+    for (number = 0; number < 2; number++)
+        for (size_t i = 0; i < CALLS; i++) {
+            size_t depth = depth_of(calls[i].run);
+            if (depth > calls[i].most) calls[i].most = depth;
+        }
     if (map) munmap(map, len);
     return 1;
 }

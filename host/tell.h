@@ -90,6 +90,24 @@ static void add_ground(struct record *to, const struct found *f) {
     add(to, "\n");
 }
 
+/* A line for each metadata text: its place, behind its number where there are several. */
+static void add_texts(struct record *to, const struct found *f) {
+    for (uint32_t i = 0; i < f->texts; i++) {
+        size_t line = to->len;
+        add(to, "  metadata  ");
+        if (f->texts > 1) {
+            add_number(to, i);
+            pad(to, line, 18);
+        }
+        add(to, "at ");
+        add_number(to, f->metadata[i].start);
+        add(to, ", ");
+        add_number(to, f->metadata[i].length);
+        add(to, " bytes\n");
+    }
+    if (f->texts == 0) add(to, "  metadata  none\n");
+}
+
 /* Path, verdict, place and sentence, and what is found. */
 static struct told tell_words(struct record *to, const char *path, const struct whole *file) {
     static struct found f;
@@ -106,15 +124,7 @@ static struct told tell_words(struct record *to, const char *path, const struct 
     if (f.ground.verdict != 0) return told;
     add_ground(to, &f);
     add_keys(to, &f);
-    add(to, "  metadata  ");
-    if (f.metadata.from == 0) {
-        add(to, "at ");
-        add_number(to, f.metadata.start);
-        add(to, ", ");
-        add_number(to, f.metadata.length);
-        add(to, " bytes\n");
-    } else
-        add(to, "none\n");
+    add_texts(to, &f);
     return told;
 }
 
@@ -263,6 +273,15 @@ static void add_json_citations(struct record *to, const struct found *f) {
     }
 }
 
+/* The elements of the list of metadata texts. */
+static void add_json_texts(struct record *to, const struct found *f) {
+    for (uint32_t i = 0; i < f->texts; i++) {
+        add_json_number(to, i > 0 ? ",{" : "{", "first", f->metadata[i].start);
+        add_json_number(to, ",", "length", f->metadata[i].length);
+        add(to, "}");
+    }
+}
+
 /* The members that only an accepted file has. */
 static void add_json_found(struct record *to, const struct found *f) {
     add_json_ground(to, &f->ground);
@@ -270,13 +289,9 @@ static void add_json_found(struct record *to, const struct found *f) {
     add_json_keys(to, f);
     add(to, "],\"citations\":[");
     add_json_citations(to, f);
-    add(to, "],\"metadata\":");
-    if (f->metadata.from == 0) {
-        add_json_number(to, "{", "first", f->metadata.start);
-        add_json_number(to, ",", "length", f->metadata.length);
-        add(to, "}");
-    } else
-        add(to, "null");
+    add(to, "],\"metadata\":[");
+    add_json_texts(to, f);
+    add(to, "]");
 }
 
 /* One JSON object on a line. */

@@ -21,6 +21,7 @@ struct thing {
 #define TILES "its count is not the tiles across times the tiles down, each rounded up"
 #define OF_STRIPS "as a tag of strips is present"
 #define OF_TILES "as a tag of tiles is present"
+#define IN_EACH ", in each entry of the tag"
 #define MATRIX                                                                                     \
     "a double is not finite, the last four do not compare equal to 0, 0, 0, 1, or the products "   \
     "(1st x 6th) and (2nd x 5th), each rounded to a double, compare equal"
@@ -72,7 +73,7 @@ static const struct thing tags[] = {
     {34736, "GeoDoubleParamsTag", {"type DOUBLE, count 1 or more"}},
     {34737, "GeoAsciiParamsTag", {"type ASCII, count 1 or more"}},
     {42113, "GDAL_NODATA", {0}},
-    {50909, "GEO_METADATA", {"type BYTE, count 1 or more"}},
+    {50909, "GEO_METADATA", {"type BYTE, count 1 or more" IN_EACH}},
     {0, NULL, {0}},
 };
 
@@ -206,7 +207,8 @@ static const struct rule {
                     "length"},
     [5] = {.wrong = "the directory's count is 0 or above 1,024, or the directory ends past the end "
                     "of the file"},
-    [6] = {&a_tag, .wrong = "is not greater than the one before"},
+    [6] = {&a_tag, .wrong = "is not greater than the one before; only 50909 may stand more than "
+                            "once, side by side"},
     [7] = {&a_tag, .wrong = "has count 0, or its value of more than 4 bytes starts odd, below 8, "
                             "or ends past the end of the file"},
     [8] = {.wrong = "the next offset is not 0: another directory follows, as for a second page, an "

@@ -13,8 +13,9 @@
  * Every call gives two numbers. The verdict is 0 for an accepted file, else
  * the number of the first broken rule. The place says where, as the rule has
  * it. Rules 1 to 22 and 27, which comes directly after 8, are the same in every
- * call on a file; 23 to 26 are told where a call has them. With any verdict but
- * 0 all other numbers are 0 and memory lent for writing keeps its bytes.
+ * call on a file; 23 to 26 and 29 come after all of them and are told where a
+ * call has them. With any verdict but 0 all other numbers are 0 and memory lent
+ * for writing keeps its bytes.
  *
  * The functions named *_file or *_runs answer a struct: a host calls these.
  * Each of their pointers may be null, whatever length stands beside it: a null
@@ -47,7 +48,8 @@ enum petalbuzz_verdict {
     PETALBUZZ_NOT_42 = 3,           /* bytes 2-3 are not the number 42 */
     PETALBUZZ_DIRECTORY_OFFSET = 4, /* the directory starts odd or outside */
     PETALBUZZ_DIRECTORY_COUNT = 5,  /* it has 0 or over 1,024 entries, or ends outside */
-    PETALBUZZ_TAG_ORDER = 6,        /* a tag is not greater than the one before: the later tag */
+    PETALBUZZ_TAG_ORDER = 6,        /* a tag is smaller than the one before, or equal and not
+                                     * 50909: the later tag */
     PETALBUZZ_TAG_VALUE_PLACE = 7,  /* a value is empty, starts odd or lies outside: its tag */
     PETALBUZZ_NEXT_OFFSET = 8,      /* another directory is said to follow */
     PETALBUZZ_TAG_ABSENT = 9,       /* a needed tag is absent: the tag */
@@ -69,6 +71,7 @@ enum petalbuzz_verdict {
     PETALBUZZ_BLOCK_ROOM = 25,      /* the memory lent is too short: the bytes needed */
     PETALBUZZ_NO_CITATION = 26,     /* the key is absent or no ASCII key: the key asked for */
     PETALBUZZ_FAMILIES = 27,        /* tags of both strips and tiles, or of neither */
+    PETALBUZZ_NO_TEXT = 29,         /* there is no text of that number: the number asked for */
 };
 
 /* The kinds of keys. */
@@ -124,12 +127,18 @@ void petalbuzz_rows(const uint8_t *file, size_t len, petalbuzz_row *rows, size_t
 void petalbuzz_citation(const uint8_t *file, size_t len, uint32_t key, uint32_t *verdict,
                         uint32_t *place, size_t *start, size_t *length);
 
-/* Writes the verdict and the place, and which part is the metadata text: with
- * from 0 a part of the file, the value of tag 50909; with from 1, where the
- * file has no such tag, the whole outside text. */
+/* Writes the verdict and the place, and which part is the metadata text of a
+ * number. A file may have several, as tag 50909 may stand more than once. With
+ * from 0 the text is a part of the file: text number k is the value of the tag's
+ * entry number k, counted from 0 in the order of the directory. With from 1 it
+ * is the whole outside text, which serves only where there is no tag 50909 at
+ * all, and only as number 0. Its own verdict: PETALBUZZ_NO_TEXT, its place the
+ * number asked for. To have all texts, ask for number 0, 1, 2 and so on until
+ * the verdict is not 0: of an accepted file it is then PETALBUZZ_NO_TEXT. There
+ * are at most 1,013. */
 void petalbuzz_metadata(const uint8_t *file, size_t len, const uint8_t *outside, size_t outside_len,
-                        uint32_t *verdict, uint32_t *place, uint32_t *from, size_t *start,
-                        size_t *length);
+                        uint32_t number, uint32_t *verdict, uint32_t *place, uint32_t *from,
+                        size_t *start, size_t *length);
 
 /* Writes the verdict and the place, the key block at the start of out, and
  * the lengths in bytes of its three runs, which stand one behind the other:
@@ -229,14 +238,16 @@ static inline petalbuzz_part petalbuzz_citation_file(const void *file, size_t le
     return answer;
 }
 
-/* Judges a file and answers its metadata text, or the outside text. */
+/* Judges a file and answers its metadata text of a number, or the outside
+ * text. */
 static inline petalbuzz_part petalbuzz_metadata_file(const void *file, size_t len,
-                                                     const void *outside, size_t outside_len) {
+                                                     const void *outside, size_t outside_len,
+                                                     uint32_t number) {
     petalbuzz_part answer;
     const uint8_t *lent = petalbuzz_lent(file, &len);
     const uint8_t *other = petalbuzz_lent(outside, &outside_len);
-    petalbuzz_metadata(lent, len, other, outside_len, &answer.verdict, &answer.place, &answer.from,
-                       &answer.start, &answer.length);
+    petalbuzz_metadata(lent, len, other, outside_len, number, &answer.verdict, &answer.place,
+                       &answer.from, &answer.start, &answer.length);
     answer.text = (answer.from == 0 ? lent : other) + answer.start;
     return answer;
 }

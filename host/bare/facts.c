@@ -101,6 +101,7 @@ IS(exit, void(int));
 IS(memset, void *(void *, int, size_t));
 IS(memmove, void *(void *, const void *, size_t));
 IS(memcpy, void *(void *, const void *, size_t));
+IS(memcmp, int(const void *, const void *, size_t));
 IS(strlen, size_t(const char *));
 IS(strpbrk, char *(const char *, const char *));
 IS(strstr, char *(const char *, const char *));

@@ -112,6 +112,7 @@ void exit(int status) __attribute__((__noreturn__));
 void *memset(void *to, int byte, size_t n);
 void *memmove(void *to, const void *from, size_t n);
 void *memcpy(void *to, const void *from, size_t n);
+int memcmp(const void *one, const void *other, size_t n);
 size_t strlen(const char *from);
 char *strpbrk(const char *from, const char *any);
 char *strstr(const char *from, const char *part);

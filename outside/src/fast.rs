@@ -8,7 +8,9 @@
 //! hand, and the first fault of a later rule waits until the earlier ones are
 //! done. Nothing is allocated, the byte order is a constant of each copy of the
 //! code, and all reads are from arrays of known length, so no unsafe code is
-//! needed to be rid of the bounds.
+//! needed to be rid of the bounds. Further metadata tags are seldom there: they
+//! stay in the directory, and their entries are read again for each gap that is
+//! looked for.
 
 mod ground;
 mod keys;

@@ -4,13 +4,15 @@
 mod common;
 
 use common::questions::{accepted, agree};
-use common::{repainted, FILE_A};
-use outside::compiled::asking::{block, citation, every_call, metadata, needs, read_block, rows};
+use common::{repainted, tags, FILE_A};
+use outside::compiled::asking::{
+    block, citation, every_call, metadata, needs, numbers, read_block, rows,
+};
 use outside::compiled::{ask, Question, Symbol};
 use outside::generator::prng::Random;
 use outside::generator::{random, sample, targeted, Call, Case};
 use outside::reader::tables::KEYS;
-use outside::reader::{judge, judgements};
+use outside::reader::{judge, judgements, texts};
 use std::collections::BTreeMap;
 
 /// Files are asked about in runs of so many.
@@ -46,6 +48,7 @@ fn asked<'a>(case: &'a Case, random: &mut Random) -> Question<'a> {
         Call::Judge => Question::on(Symbol::Judge, &case.file),
         Call::Rows(lent) => rows(&case.file, *lent, random),
         Call::Citation(key) => citation(&case.file, *key),
+        Call::Metadata(number) => metadata(&case.file, b"an outside text", *number),
         Call::Block(room) => block(&case.file, *room, random),
         Call::ReadBlock(runs) => read_block(runs),
     }
@@ -109,24 +112,57 @@ fn outside_texts_of_any_length_agree() {
     files.extend([FILE_A.to_vec(), FILE_A[..269].to_vec(), Vec::new()]);
     for length in [0, 1, 4, 5, 255, 70_000, 1_000_000] {
         let text = Random::new(67).bytes(length);
-        agree(&files.iter().map(|file| metadata(file, &text)).collect::<Vec<_>>());
+        let asked =
+            files.iter().flat_map(|file| [0, 1].map(|number| metadata(file, &text, number)));
+        agree(&asked.collect::<Vec<_>>());
     }
     // a text that is the file itself is still the outside text
-    agree(&files.iter().map(|file| metadata(file, file)).collect::<Vec<_>>());
+    agree(&files.iter().map(|file| metadata(file, file, 0)).collect::<Vec<_>>());
 }
 
-/// Files of every verdict, at most `most` of each.
+/// Files with more than one metadata tag, of every verdict that they can have.
+fn mosaics(seed: u64, count: usize) -> Vec<Vec<u8>> {
+    let files = (0..).filter(|number| number % 8 > 5).map(|number| sample(seed, number).file);
+    files.take(count).collect()
+}
+
+/// Every text of a file by its number, and every number up to some behind the
+/// last; of a file of very many the first and the last ones.
+#[test]
+fn texts_of_every_number_agree() {
+    let files = mosaics(66, 1_200);
+    let asked = |file: &Vec<u8>| {
+        let all = texts(file) as u32;
+        (0..40).chain(all.saturating_sub(3)..all + 4).chain(numbers(file)).collect::<Vec<u32>>()
+    };
+    assert!(files.iter().any(|file| texts(file) > 1_000), "a file of very many texts");
+    for run in files.chunks(RUN) {
+        let of = |file| asked(file).into_iter().map(move |k| metadata(file, b"outside", k));
+        agree(&run.iter().flat_map(of).collect::<Vec<_>>());
+    }
+    // the same low bits under others
+    let far = (0..16).map(|at| 1 + (1u32 << (16 + at)));
+    agree(&far.map(|number| metadata(&files[0], b"outside", number)).collect::<Vec<_>>());
+}
+
+/// Files of every verdict, at most `most` of each, and as many mosaics.
 fn of_every_verdict(most: usize) -> Vec<Vec<u8>> {
-    let mut seen: BTreeMap<u32, usize> = BTreeMap::new();
+    let mut seen: BTreeMap<(u32, bool), usize> = BTreeMap::new();
     let mixed = (0..6_000).map(|number| sample(73, number).file);
     let plain = targeted(73).into_iter().filter(|case| matches!(case.call, Call::Judge));
     let mut files: Vec<Vec<u8>> = mixed.chain(plain.map(|case| case.file)).collect();
     files.retain(|file| {
-        let count = seen.entry(judge(file).verdict.number).or_insert(0);
+        let several = tags(file).iter().filter(|tag| **tag == 50909).count() > 1;
+        let count = seen.entry((judge(file).verdict.number, several)).or_insert(0);
         *count += 1;
         *count <= most
     });
-    assert!(seen.keys().copied().eq(judgements()), "{seen:?}");
+    for several in [false, true] {
+        let with = seen.keys().filter(|(_, other)| *other == several).map(|(number, _)| *number);
+        // without a whole directory no tag is there
+        let all = judgements().filter(|number| !several || *number == 0 || *number > 5);
+        assert!(with.filter(|number| !several || *number == 0 || *number > 5).eq(all), "{seen:?}");
+    }
     files
 }
 
@@ -141,7 +177,8 @@ fn same_answers(before: &[Question], after: &[Question]) {
 }
 
 /// Demand 3: every byte that is not on the reading list is drawn anew, and
-/// the whole answer of every call stays.
+/// the whole answer of every call stays, for the same key and the same number of
+/// a text in both files.
 #[test]
 fn repainting_what_is_not_on_the_reading_list_changes_nothing() {
     let mut random = Random::new(74);
@@ -152,7 +189,9 @@ fn repainting_what_is_not_on_the_reading_list_changes_nothing() {
     for (files, painted) in files.chunks(RUN).zip(painted.chunks(RUN)) {
         let (mut before, mut after) = (Vec::new(), Vec::new());
         for (file, other) in files.iter().zip(painted) {
-            let list = every_call(file, &mut random);
+            let mut list = every_call(file, &mut random);
+            let all = 0..texts(file).min(40) as u32;
+            list.extend(all.map(|number| metadata(file, b"an outside text", number)));
             after.extend(list.iter().map(|asked| Question {
                 runs: [other, asked.runs[1], asked.runs[2]],
                 ..asked.clone()

@@ -3,8 +3,8 @@
 
 mod common;
 
-use outside::compiled::{ask, disagreements, Answer, Question, Symbol};
-use outside::generator::large::many_pieces;
+use outside::compiled::{ask, disagreements, expected, Answer, Question, Symbol};
+use outside::generator::large::{many_pieces, many_texts};
 use outside::generator::{sample, targeted, Call};
 use outside::reader::tables::BOTH;
 use outside::reader::Order;
@@ -51,6 +51,20 @@ fn files_of_many_pieces_agree() {
         cut.pop();
         files.push(cut);
         agree(&files);
+    }
+}
+
+/// As many metadata tags as there is room for, and pieces between their values.
+#[test]
+fn files_of_many_texts_agree() {
+    for order in [Order::Little, Order::Big] {
+        let file = many_texts(order, 5_000, 3);
+        // one piece a byte longer, so that it is on a value
+        let mut long = file.clone();
+        let byte = file.len() - 4 * 2_500 + if order == Order::Big { 3 } else { 0 };
+        long[byte] += 1;
+        assert_eq!((expected(&long).verdict, expected(&long).place), (14, 2_500));
+        agree(&[file, long]);
     }
 }
 

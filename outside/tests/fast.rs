@@ -3,11 +3,11 @@
 mod common;
 
 use outside::compiled::{expected, fast};
-use outside::generator::large::many_pieces;
+use outside::generator::large::{many_pieces, many_texts};
 use outside::generator::plan::{Plan, Tag};
 use outside::generator::{sample, targeted, Call};
 use outside::reader::tables::{BOTH, TAGS};
-use outside::reader::Order;
+use outside::reader::{texts, Order};
 
 fn agrees(file: &[u8]) {
     let (got, want) = (fast(file), expected(file));
@@ -31,7 +31,7 @@ fn the_fast_judge_agrees_on_the_files_of_real_producers() {
     let files = common::field();
     files.iter().for_each(|file| agrees(file));
     let accepted = files.iter().filter(|file| expected(file).verdict == 0).count();
-    assert_eq!((files.len(), accepted), (65, 29), "as docs/FIELD.md has them");
+    assert_eq!((files.len(), accepted), (70, 34), "as docs/FIELD.md has them");
 }
 
 /// Every tag of the table, and some behind it, with a value of its own.
@@ -44,6 +44,25 @@ fn the_fast_judge_agrees_where_every_value_is_long() {
             plan.set(Tag::longs(tag, &[1, 2, 3, 4, 5, 6]));
         }
         agrees(&plan.lay().bytes);
+    }
+}
+
+/// As many metadata tags as there is room for, and pieces between their values;
+/// one byte further, the first piece is on one of them.
+#[test]
+fn the_fast_judge_agrees_on_many_texts() {
+    for order in [Order::Little, Order::Big] {
+        for (strips, bytes) in [(2, 1), (1_013, 2), (5_000, 3)] {
+            let file = many_texts(order, strips, bytes);
+            assert_eq!((expected(&file).verdict, texts(&file)), (0, 1_013));
+            agrees(&file);
+            agrees(&file[..file.len() - 1]);
+            let mut long = file.clone();
+            let byte = file.len() - 4 * strips as usize + if order == Order::Big { 3 } else { 0 };
+            long[byte] += 1;
+            assert_eq!((expected(&long).verdict, expected(&long).place), (14, 0));
+            agrees(&long);
+        }
     }
 }
 

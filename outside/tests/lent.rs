@@ -5,11 +5,13 @@ mod common;
 
 use common::*;
 use outside::generator::{random, targeted, Call, Case};
-use outside::reader::{citation, judge, key_block, key_rows, metadata, Cited, Row, Text, Verdict};
+use outside::reader::{
+    citation, judge, key_block, key_rows, metadata, texts, Cited, Row, Text, Verdict,
+};
 
 /// The refused cases, at most `most` of each rule.
 fn refused(most: usize) -> Vec<Case> {
-    let mut seen = [0; 28];
+    let mut seen = [0; 30];
     let mut cases = targeted(31);
     cases.retain(|case| {
         let rule = case.want.number as usize;
@@ -35,7 +37,9 @@ fn a_refusal_leaves_lent_memory_and_gives_zeros() {
         let nothing = Cited { verdict: want, start: 0, length: 0 };
         assert_eq!(citation(&case.file, 1026), nothing);
         let nothing = Text { verdict: want, from: 0, start: 0, length: 0 };
-        assert_eq!(metadata(&case.file, b"outside"), nothing);
+        for number in [0, 1, 2, u32::MAX] {
+            assert_eq!(metadata(&case.file, b"outside", number), nothing);
+        }
         assert_eq!(judge(&case.file).keys, 0);
     }
 }
@@ -104,6 +108,24 @@ fn refusals_of_the_calls_leave_lent_memory() {
             assert_eq!(block.lengths, [0; 3]);
         }
     }
+}
+
+/// A number that no text has: 29 with that number, and nothing else.
+#[test]
+fn a_refused_number_gives_zeros() {
+    let mut several = 0;
+    for sample in random(36, 1_200).into_iter().filter(|sample| !sample.damaged) {
+        let all = texts(&sample.file) as u32;
+        several += usize::from(all > 1);
+        for number in [all.max(1), all + 1, all + 256, 65_536 + all, u32::MAX] {
+            let nothing = Text { verdict: verdict(29, number), from: 0, start: 0, length: 0 };
+            assert_eq!(metadata(&sample.file, b"outside", number), nothing);
+        }
+        for number in 0..all.max(1) {
+            assert_eq!(metadata(&sample.file, b"outside", number).verdict, verdict(0, 0));
+        }
+    }
+    assert!(several > 100, "{several} files of several texts");
 }
 
 #[test]

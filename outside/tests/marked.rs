@@ -120,10 +120,12 @@ fn the_key_block_of_file_a_is_its_key_directory() {
 
 #[test]
 fn file_a_has_no_metadata_so_the_outside_text_stands() {
-    let text = metadata(&FILE_A, b"outside");
+    let text = metadata(&FILE_A, b"outside", 0);
     assert_eq!((text.verdict, text.from, text.start, text.length), (verdict(0, 0), 1, 0, 7));
-    let text = metadata(&FILE_A, b"");
+    let text = metadata(&FILE_A, b"", 0);
     assert_eq!((text.verdict, text.from, text.start, text.length), (verdict(0, 0), 1, 0, 0));
+    let text = metadata(&FILE_A, b"outside", 1);
+    assert_eq!((text.verdict, text.from, text.start, text.length), (verdict(29, 1), 0, 0, 0));
 }
 
 #[test]

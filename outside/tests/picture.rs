@@ -7,7 +7,8 @@ use common::{held, repainted, tags, UNTOUCHED};
 use outside::generator::prng::Random;
 use outside::generator::{random, targeted, Call};
 use outside::reader::{
-    citation, judge, judgements, key_block, key_rows, listed, metadata, Georeference, Row, Verdict,
+    citation, judge, judgements, key_block, key_rows, listed, metadata, texts, Georeference, Row,
+    Verdict,
 };
 use std::collections::{BTreeMap, BTreeSet};
 
@@ -19,8 +20,8 @@ struct Answers {
     doubles: Vec<u64>,
     affine: bool,
     rows: Vec<(Verdict, u32, Vec<Row>)>,
-    texts: Vec<(Verdict, usize, Vec<u8>)>,
-    metadata: (Verdict, u32, usize, Vec<u8>),
+    citations: Vec<(Verdict, usize, Vec<u8>)>,
+    texts: Vec<(Verdict, u32, usize, Vec<u8>)>,
     blocks: Vec<(Verdict, [usize; 3], Vec<u8>)>,
     list: Vec<bool>,
 }
@@ -33,9 +34,26 @@ fn rows(file: &[u8], lent: usize) -> (Verdict, u32, Vec<Row>) {
     (verdict, keys, rows)
 }
 
-fn text(file: &[u8], key: u32) -> (Verdict, usize, Vec<u8>) {
+fn cited(file: &[u8], key: u32) -> (Verdict, usize, Vec<u8>) {
     let cited = citation(file, key);
     (cited.verdict, cited.start, file[cited.start..cited.start + cited.length].to_vec())
+}
+
+/// The metadata text of that number.
+fn text(file: &[u8], number: u32) -> (Verdict, u32, usize, Vec<u8>) {
+    let outside = b"the outside text";
+    let text = metadata(file, outside, number);
+    let from: &[u8] = if text.from == 0 { file } else { outside };
+    let part = &from[text.start..text.start + text.length];
+    (text.verdict, text.from, text.start, part.to_vec())
+}
+
+/// Every number of a text that the file has, of very many the first and the last
+/// ones, and some that it has not.
+fn numbers(file: &[u8]) -> Vec<u32> {
+    let all = texts(file) as u32;
+    let asked = (0..all + 2).filter(|number| all < 60 || *number < 20 || number + 20 > all);
+    asked.chain([65_536, 1 << 31, u32::MAX]).collect()
 }
 
 fn block(file: &[u8], room: usize) -> (Verdict, [usize; 3], Vec<u8>) {
@@ -44,24 +62,21 @@ fn block(file: &[u8], room: usize) -> (Verdict, [usize; 3], Vec<u8>) {
     (block.verdict, block.lengths, out)
 }
 
-fn answers(file: &[u8]) -> Answers {
+/// All answers, with the metadata texts of these numbers.
+fn answers(file: &[u8], numbers: &[u32]) -> Answers {
     let judged = judge(file);
     let (affine, six) = match judged.georeference {
         Georeference::Scaled(six) => (false, six),
         Georeference::Affine(six) => (true, six),
     };
-    let outside = b"the outside text";
-    let text_of_file = metadata(file, outside);
-    let from: &[u8] = if text_of_file.from == 0 { file } else { outside };
-    let part = &from[text_of_file.start..text_of_file.start + text_of_file.length];
     Answers {
         verdict: judged.verdict,
         keys: judged.keys,
         doubles: six.iter().chain(&judged.corners).map(|double| double.to_bits()).collect(),
         affine,
         rows: [0, 2, 3, 12, 256].iter().map(|&lent| rows(file, lent)).collect(),
-        texts: ASKED.iter().map(|&key| text(file, key)).collect(),
-        metadata: (text_of_file.verdict, text_of_file.from, text_of_file.start, part.to_vec()),
+        citations: ASKED.iter().map(|&key| cited(file, key)).collect(),
+        texts: numbers.iter().map(|&number| text(file, number)).collect(),
         blocks: [0, 32, 100, 3_000].iter().map(|&room| block(file, room)).collect(),
         list: listed(file),
     }
@@ -85,19 +100,22 @@ fn files() -> Vec<Vec<u8>> {
 #[test]
 fn repainting_changes_no_answer() {
     let mut random = Random::new(22);
-    let mut numbers = BTreeSet::new();
-    let mut painted = 0;
+    let mut verdicts = BTreeSet::new();
+    let (mut painted, mut several) = (0, 0);
     for file in files() {
-        let before = answers(&file);
-        numbers.insert(before.verdict.number);
+        let numbers = numbers(&file);
+        let before = answers(&file, &numbers);
+        verdicts.insert(before.verdict.number);
         for _ in 0..2 {
             let other = repainted(&file, &mut random);
             painted += usize::from(other != file);
-            assert_eq!(answers(&other), before);
+            several += usize::from(other != file && texts(&file) > 1);
+            assert_eq!(answers(&other, &numbers), before);
         }
     }
-    assert_eq!(numbers, judgements().collect::<BTreeSet<u32>>());
+    assert_eq!(verdicts, judgements().collect::<BTreeSet<u32>>());
     assert!(painted > 3_000, "{painted}");
+    assert!(several > 500, "{several} of several texts");
 }
 
 #[test]
@@ -124,7 +142,8 @@ fn repainting_the_pieces_alone_changes_no_answer() {
             let fresh = random_bytes.bytes(piece.len());
             other[piece].copy_from_slice(&fresh);
         }
-        assert_eq!(answers(&other), answers(&sample.file));
+        let numbers = numbers(&sample.file);
+        assert_eq!(answers(&other, &numbers), answers(&sample.file, &numbers));
     }
 }
 

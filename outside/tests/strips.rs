@@ -1,12 +1,13 @@
-//! A file of strips that carries no tag of tiles is judged as document 01 alone
-//! judges it: by the table without those tags and without rule 27.
+//! A file of strips that carries no tag of tiles is judged by request C-11 as
+//! document 01 alone judges it: by the table without those tags and without rule
+//! 27. `texts` does so for request C-12.
 
 mod common;
 
 use common::tags;
 use outside::generator::{random, targeted, Call, Case};
-use outside::reader::tables::{Family, BOTH, STRIPS_ALONE};
-use outside::reader::{judge, judge_by, judgements, reading_list, reading_list_by};
+use outside::reader::tables::{Family, C_11, DOCUMENT_01};
+use outside::reader::{judge_by, judgements, reading_list_by};
 use std::collections::BTreeSet;
 
 /// The files of the targeted cases of the plain judgement, and of the mix.
@@ -27,9 +28,10 @@ fn in_strips_alone(file: &[u8]) -> bool {
 fn a_file_without_tags_of_tiles_keeps_its_verdict_its_place_and_its_list() {
     let (mut compared, mut numbers) = (0, BTreeSet::new());
     for file in files().filter(|file| in_strips_alone(file)) {
-        let judged = judge_by(&file, STRIPS_ALONE);
-        assert_eq!(judge(&file), judged, "{file:02X?}");
-        assert_eq!(reading_list(&file), reading_list_by(&file, STRIPS_ALONE), "{file:02X?}");
+        let judged = judge_by(&file, DOCUMENT_01);
+        assert_eq!(judge_by(&file, C_11), judged, "{file:02X?}");
+        let lists = [C_11, DOCUMENT_01].map(|rules| reading_list_by(&file, rules));
+        assert_eq!(lists[0], lists[1], "{file:02X?}");
         numbers.insert(judged.verdict.number);
         compared += 1;
     }
@@ -43,7 +45,7 @@ fn a_file_without_tags_of_tiles_keeps_its_verdict_its_place_and_its_list() {
 fn only_tiles_and_files_of_no_family_are_judged_anew() {
     let mut anew = 0;
     for file in files() {
-        let (was, is) = (judge_by(&file, STRIPS_ALONE).verdict, judge_by(&file, BOTH).verdict);
+        let (was, is) = (judge_by(&file, DOCUMENT_01).verdict, judge_by(&file, C_11).verdict);
         if was != is {
             assert!(!in_strips_alone(&file), "{file:02X?}");
             assert!(was.number == 0 || was.number >= 9, "{was:?} {is:?}");
@@ -59,9 +61,9 @@ fn document_01_lets_tags_of_tiles_stand_beside_strips() {
     let mut beside = 0;
     let both = |case: &Case| case.broken && case.clause == "27 both families";
     for case in targeted(83).into_iter().filter(both) {
-        let was = judge_by(&case.file, STRIPS_ALONE).verdict.number;
+        let was = judge_by(&case.file, DOCUMENT_01).verdict.number;
         if was == 0 {
-            assert_eq!(judge(&case.file).verdict.number, 27);
+            assert_eq!(judge_by(&case.file, C_11).verdict.number, 27);
             beside += 1;
         }
     }

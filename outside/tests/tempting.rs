@@ -88,7 +88,7 @@ fn a_short_metadata_text_stands_in_its_entry() {
             let mut plan = plan(order, &keys());
             plan.set(Tag::bytes(50909, 1, &b"<meta>"[..length]));
             let laid = plan.lay();
-            let text = metadata(&laid.bytes, b"outside");
+            let text = metadata(&laid.bytes, b"outside", 0);
             assert_eq!((text.verdict, text.from, text.length), (verdict(0, 0), 0, length));
             let entry = laid.spot(50909).entry + 8;
             assert_eq!(text.start == entry, length <= 4);

@@ -12,16 +12,21 @@ use borrow.Author.Tests.{eq-eqb, ne-eqb}
 use Rattle.paper.specs.Bytes.{run}
 use Rattle.paper.specs.Outcome.{first, verdict, _▷_}
 use Rattle.paper.specs.Tests.{all}
-use Rattle.paper.specs.Layout.{dirLen, entries, nextOffset, rule8}
+use Rattle.paper.specs.Layout.{dirLen, entries, nextOffset, rule6, rule8}
 use Rattle.paper.specs.Tags.{table}
 use Rattle.paper.specs.Judge.{Head, View, view, viewAt, headIn, dirRun, entriesIn, nextIn, fullOf}
 use Rattle.paper.specs.Judge.{tableRules, pieceRules, pictureRules, entryRules, nextRules}
 use Rattle.paper.specs.Judge.{headStage, offsetStage, countStage, entryStage, directoryStage, nextStage, pictureStage, imageStage}
 use Rattle.paper.proofs.First.{first-append, chain-zero, chain-stop, chain-turn}
 use Rattle.paper.proofs.Laws.{run-length-in}
+use Rattle.paper.proofs.Several.{entries-held}
+use Rattle.paper.specs.declared.Outcome.{Outcome}
+use Rattle.paper.specs.declared.Outcome.the-variants.{Kept as kept}
 use Rattle.paper.specs.declared.Verdict.{Verdict}
 use Rattle.layout.specs.Columns.{typColumn, countColumn, startColumn, lenColumn}
-use Rattle.layout.specs.Opening.{headedOf, openedOf, scannedOf}
+use Rattle.layout.specs.Opening.{headedOf, openedOf, furtherBy, scannedOf}
+use Rattle.layout.specs.Repeats.{furtherOf}
+use Rattle.layout.specs.declared.Further.{Further}
 use Rattle.layout.specs.declared.Headed.the-variants.{Bad, Good}
 use Rattle.layout.specs.declared.Opened.the-variants.{Refused}
 use Rattle.layout.specs.declared.Scanned.{Scanned}
@@ -62,7 +67,7 @@ module _ (v : View) (next : ℕ) where
 
 -- ---- the columns of a directory whose rules 1 to 8 are kept
 
-module _ {f : List ℕ} {big : Bool} {at c : ℕ} {typs counts starts lens : List ℕ} (p : Passed f big at c typs counts starts lens)
+module _ {f : List ℕ} {big : Bool} {at c : ℕ} {typs counts starts lens : List ℕ} {r : Further} (p : Passed f big at c typs counts starts lens r)
     {t : Tagged} (is : t ≡ taggedOf (viewOf f big at c)) (z : t .verdict .number ≡ 0) where
   table-zero : taggedOf (viewOf f big at c) .verdict .number ≡ 0
   table-zero = ap (λ (x : Tagged). x .verdict .number) (sym is) ∙ z
@@ -70,7 +75,7 @@ module _ {f : List ℕ} {big : Bool} {at c : ℕ} {typs counts starts lens : Lis
   known : Accepted f big at c typs counts starts lens
   known = accepted f big at c typs counts starts lens (p .ready) table-zero
 
-  pub fits : Fits f big at c (t .tiled) typs counts starts lens
+  pub fits : Fits f big at c (t .tiled) typs counts starts lens r
   fits = record { passed = p; twelve = table-zero; tiled-is = ap (λ (x : Tagged). x .tiled) is ∙ known .tiled-is }
 
   part-is : (u k : ℕ) → Slot f (heldAt f big at c) typs counts starts lens u k
@@ -92,9 +97,10 @@ module _ {f : List ℕ} {big : Bool} {at c : ℕ} {typs counts starts lens : Lis
         tiepoint = record { start = getD starts 15 0; len = getD lens 15 0 };
         matrix = record { start = getD starts 16 0; len = getD lens 16 0 };
         metadata = record { start = getD starts 20 0; len = getD lens 20 0 };
+        further = r;
       }
       ≡ imageBy (pictureStage (viewOf f big at c)) (viewOf f big at c) next
-  unfolding imageIn viewOf
+  unfolding imageIn viewOf heldAt
   image-good {next} {s} so y =
       let w = ap (λ (x : Tagged). x .width) is ∙ known .width-is in
       let l = ap (λ (x : Tagged). x .length) is ∙ known .length-is in
@@ -105,6 +111,7 @@ module _ {f : List ℕ} {big : Bool} {at c : ℕ} {typs counts starts lens : Lis
       let ti = part-is 33922 15 (known .tiepoint .slot) in
       let m = part-is 34264 16 (known .matrix .slot) in
       let me = part-is 50909 20 (known .metadata) in
+      let fu = p .behind .is ∙ ap (furtherOf at) (sym (entries-held table f (entriesAt f big at c))) in
       (λ i. record {
         verdict = verdict 0 0;
         big = big;
@@ -118,6 +125,7 @@ module _ {f : List ℕ} {big : Bool} {at c : ℕ} {typs counts starts lens : Lis
         tiepoint = ti i;
         matrix = m i;
         metadata = me i;
+        further = fu i;
       })
       ∙ none-refuses (viewOf f big at c) next is z so y
 
@@ -255,9 +263,16 @@ module _ {f : List ℕ} {big : Bool} {at c : ℕ} (o : Opening f big at c) where
           let w : imageStage f ≡ pictureStage (view f) = to-next ∙ rw e in
           sym (rw (w, seen, next-found))
 
+      six-is : rule6 (entries big at c Bytes) ≡ kept
+      six-is = six-kept Place (entries big at c Bytes) verdict-is z
+
+      further-found : s .further ≡ furtherOf at (entries big at c Bytes)
+      unfolding scannedOf
+      further-found = ap (λ (x : Scanned). x .further) so ∙ ap (λ (x : Outcome). furtherBy x at (entries big at c Bytes)) six-is
+
       pub scan-passed : {typs counts starts lens : List ℕ} → typs ≡ typColumn (entries big at c (run f at (dirLen c)))
           → counts ≡ countColumn (entries big at c (run f at (dirLen c))) → starts ≡ startColumn at (entries big at c (run f at (dirLen c)))
-          → lens ≡ lenColumn c (entries big at c (run f at (dirLen c))) → Passed f big at c typs counts starts lens
+          → lens ≡ lenColumn c (entries big at c (run f at (dirLen c))) → Passed f big at c typs counts starts lens (s .further)
       unfolding entriesAt
       scan-passed a b d e =
           record {
@@ -274,5 +289,5 @@ module _ {f : List ℕ} {big : Bool} {at c : ℕ} (o : Opening f big at c) where
                   lens-are = e;
                   seven = seven-kept Place (entries big at c Bytes) verdict-is z;
                 };
-            six = six-kept Place (entries big at c Bytes) verdict-is z;
+            behind = record { six = six-is; is = further-found };
           }

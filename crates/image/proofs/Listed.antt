@@ -1,162 +1,160 @@
--- The columns that the pass over a directory leaves are the full reading list: a place shares a byte with one of their parts exactly where it
--- shares one with the list. The tags ascend, so each tag of the table has one entry. Assumes nothing.
+-- The columns that the pass over a directory leaves, with the entries of 50909 behind the first, are the full reading list: a place shares a byte with
+-- one of their parts exactly where it shares one with the list. Where rule 6 is kept, each other tag of the table has one entry. Assumes nothing.
 use Prim.Native.Nat.{ℕ, zero, suc, _+_, _*_, _≤_, _<_, min, max}
-use mathlib.Core.Path.{_≡_, refl, sym, ap, ap₂, _∙_, subst}
-use mathlib.Core.Bool.{Bool, true, false, cond, not, _&&_, _||_, or-true, or-false, or-assoc, false≢true}
-use mathlib.Core.List.{List, [], _∷_, map}
+use mathlib.Core.Path.{_≡_, refl, sym, ap, ap₂, _∙_}
+use mathlib.Core.Bool.{Bool, true, false, _&&_, _||_, and-true, and-false, or-true, or-false, or-assoc, or-comm}
+use mathlib.Core.List.{List, [], _∷_, _++_, map}
 use native.Mathlib.Omega.{arith}
-use lib.Dec.{eqb, leb, ltb}
-use lib.ListN.{getD}
-use borrow.Author.Tests.{eqb-true, eqb-false, eq-eqb, ne-eqb, ltb-true, ltb-false, lt-ltb, le-ltb, leb-true, le-leb, not-true}
+use lib.Dec.{eqb, ltb}
+use lib.ListN.{getD, drop}
+use borrow.Author.Tests.{eqb-true, eqb-false, eq-eqb, ne-eqb, ltb-true, ltb-false, lt-ltb, le-leb}
 use Rattle.paper.specs.Bytes.{num, build}
-use Rattle.paper.specs.Outcome.{ascending, ascendingFrom, first, _▸_, ordered, orderedFrom}
+use Rattle.paper.specs.Outcome.{first, _▸_}
 use Rattle.paper.specs.declared.Outcome.{Outcome}
-use Rattle.paper.specs.declared.Outcome.the-variants.{Kept as kept, Broken as broken}
-use Rattle.paper.specs.Tests.{all, some, keep}
-use Rattle.paper.specs.Layout.{dirLen, sizeOf, startOf, typed, entries, entryAt, entryOf, rule6}
+use Rattle.paper.specs.declared.Outcome.the-variants.{Kept as kept}
+use Rattle.paper.specs.Tests.{some, keep}
+use Rattle.paper.specs.Layout.{dirLen, sizeOf, startOf, typed, entries, entryAt, entryOf, behind, rule6}
 use Rattle.paper.specs.Tags.{table, inTable, listed, hold}
 use Rattle.paper.specs.Pieces.{part, Piece, shares, fullList, touches, rule13, rule14}
 use Rattle.paper.specs.declared.Part.{Part}
+use Rattle.paper.specs.declared.Entry.{Entry}
 use Rattle.paper.specs.Asked.{noPiece}
-use Rattle.paper.proofs.Laws.{and-eq, first-same}
+use Rattle.paper.proofs.Laws.{first-same}
 use Rattle.paper.proofs.Loops.{listedIs, some-values}
+use Rattle.paper.proofs.Several.{some-keep, rises-behind, no-other}
 use Rattle.layout.specs.Columns.{tags, fieldOf, column, startColumn, lenColumn}
-use Rattle.paper.proofs.Store.{notIn, distinct}
-use Rattle.layout.proofs.Finding.{tags-distinct}
+use Rattle.layout.specs.Repeats.{laterTexts}
 use Rattle.layout.proofs.Values.{untyped-len}
 use Rattle.pieces.specs.Gaps.{partAt, wide, partsOf, placesJudged}
-use Rattle.paper.specs.declared.Entry.{Entry}
 
--- ---- an entry's tag does not come again
+-- the value bytes of the entries of 50909 behind the first
+unfoldable pub laterParts : List Entry → List Part
+laterParts es = map (λ e. part (e .start) (e .len)) (laterTexts es)
 
-absent-above : (field : Entry → ℕ) (a t : ℕ) (es : List Entry) → t ≤ a → ascendingFrom a (map (λ e. e .tag) es) ≡ kept → fieldOf field t es ≡ 0
-unfolding fieldOf orderedFrom
-absent-above field a t [] l h = refl
-absent-above field a t (e ∷ es) l h = go (ltb a (e .tag)) refl (λ k. absent-above field (e .tag) t es k)
-  where
-    go : (b : Bool) → ltb a (e .tag) ≡ b → (t ≤ e .tag → ascendingFrom (e .tag) (map (λ e. e .tag) es) ≡ kept → fieldOf field t es ≡ 0) → fieldOf field t (e ∷ es) ≡ 0
-    go true q r =
-        let g : a < e .tag = ltb-true _ _ q in
-        let n : e .tag ≡ t → ⊥ = λ z. omega arith in
-        rw (ne-eqb (e .tag) t n) (r (omega arith) (rw q at h))
-    go false q r = let w : broken (e .tag) ≡ kept = rw q at h in cc
+-- those of one entry
+abbrev pub valuePart : Entry → Part
+valuePart e = part (e .start) (e .len)
 
--- ---- one entry more, over a list of tags
+-- ---- whether one of many passes a test
 
-some-same : (p q : ℕ → Bool) (x : ℕ) (ts : List ℕ) → notIn x ts ≡ true → ((t : ℕ) → eqb x t ≡ false → p t ≡ q t) → some p ts ≡ some q ts
+some-append : {A : Type 0} (is : A → Bool) (xs ys : List A) → some is (xs ++ ys) ≡ some is xs || some is ys
 unfolding some
-some-same p q x [] n h = refl
-some-same p q x (t ∷ ts) n h =
-    let b = and-eq (not (eqb x t)) (notIn x ts) n in
-    ap₂ (λ (u v : Bool). u || v) (h t (not-true _ (b .0))) (some-same p q x ts (b .1) h)
+some-append is [] ys = refl
+some-append is (x ∷ xs) ys = ap (λ (b : Bool). is x || b) (some-append is xs ys) ∙ sym (or-assoc (is x) (some is xs) (some is ys))
 
--- a test that changes at x alone, where it failed
-some-one : (p q : ℕ → Bool) (x : ℕ) (ts : List ℕ) → distinct ts ≡ true → ((t : ℕ) → eqb x t ≡ false → p t ≡ q t) → q x ≡ false
-    → some p ts ≡ (some (λ t. eqb t x) ts && p x) || some q ts
+some-map : {A B : Type 0} (is : B → Bool) (g : A → B) (xs : List A) → some is (map g xs) ≡ some (λ x. is (g x)) xs
 unfolding some
-some-one p q x [] d h z = refl
-some-one p q x (t ∷ ts) d h z = go (eqb x t) refl (some-one p q x ts (and-eq (notIn t ts) (distinct ts) d .1) h z)
+some-map is g [] = refl
+some-map is g (x ∷ xs) = ap (λ (b : Bool). is (g x) || b) (some-map is g xs)
+
+some-or : {A : Type 0} (p q : A → Bool) (xs : List A) → some (λ x. p x || q x) xs ≡ some p xs || some q xs
+unfolding some
+some-or p q [] = refl
+some-or p q (x ∷ xs) = ap (λ (b : Bool). p x || q x || b) (some-or p q xs) ∙ swap (p x) (q x) (some p xs) (some q xs)
   where
-    go : (b : Bool) → eqb x t ≡ b → some p ts ≡ (some (λ t. eqb t x) ts && p x) || some q ts → some p (t ∷ ts) ≡ (some (λ t. eqb t x) (t ∷ ts) && p x) || some q (t ∷ ts)
-    go true e r =
-        let w : x ≡ t = eqb-true x t e in
-        let u : eqb t x ≡ true = eq-eqb t x (sym w) in
-        let rest : some p ts ≡ some q ts = some-same p q x ts (subst (λ (y : ℕ). notIn y ts ≡ true) (sym w) (and-eq (notIn t ts) (distinct ts) d .0)) h in
-        let k : p t ≡ p x = ap p (sym w) in
-        let m : q t ≡ false = ap q (sym w) ∙ z in
-        rw (u, rest, k, m)
-    go false e r =
-        let u : eqb t x ≡ false = ne-eqb t x (λ y. eqb-false x t e (sym y)) in
-        let k : p t ≡ q t = h t e in
-        rw (u, k, r) (swap (q t) (some (λ t. eqb t x) ts && p x) (some q ts))
+    swap : (a b c d : Bool) → a || b || (c || d) ≡ a || c || (b || d)
+    swap true b c d = refl
+    swap false true c d = sym (or-true c)
+    swap false false c d = refl
+
+-- a test that passes at x alone
+some-only : (q : ℕ → Bool) (x : ℕ) → ((t : ℕ) → eqb t x ≡ false → q t ≡ false) → (ts : List ℕ) → some q ts ≡ some (λ t. eqb t x) ts && q x
+unfolding some
+some-only q x h [] = refl
+some-only q x h (t ∷ ts) = go (eqb t x) refl (some-only q x h ts)
+  where
+    go : (b : Bool) → eqb t x ≡ b → some q ts ≡ some (λ t. eqb t x) ts && q x → some q (t ∷ ts) ≡ some (λ t. eqb t x) (t ∷ ts) && q x
+    go true e r = rw (e, r, eqb-true t x e) (again (q x) (some (λ t. eqb t x) ts))
       where
-        swap : (a b c : Bool) → a || (b || c) ≡ b || (a || c)
-        swap true b c = sym (or-true b)
-        swap false b c = refl
+        again : (a b : Bool) → a || (b && a) ≡ a
+        again true b = refl
+        again false b = and-false b
+    go false e r = rw (e, h t e) r
+
+-- tests of entries that differ only where d is true
+some-either : (p q : Entry → Bool) (d : Bool) (g : ℕ → Entry) (c i k : ℕ) → i + k ≤ c → ((j : ℕ) → j < c → p (g j) || d ≡ q (g j) || d)
+    → some p (build g i k) || d ≡ some q (build g i k) || d
+unfolding some build
+some-either p q true g c i k l h = rw (or-true (some p (build g i k)), or-true (some q (build g i k)))
+some-either p q false g c i k l h = ap (λ (b : Bool). b || false) (same i k l)
+  where
+    same : (i k : ℕ) → i + k ≤ c → some p (build g i k) ≡ some q (build g i k)
+    same i zero l = refl
+    same i (suc k) l =
+        ap₂ (λ (a b : Bool). a || b) (sym (or-false (p (g i))) ∙ h i (omega arith) ∙ or-false (q (g i))) (same (suc i) k (omega arith))
 
 -- ---- the values of the table's tags
 
-module _ (is : Part → Bool) (none : (s : ℕ) → is (part s 0) ≡ false) where
+in-tags : (x : ℕ) → some (λ t. eqb t x) tags ≡ inTable table x
+unfolding tags table inTable some
+in-tags x = refl
+
+-- 50909 is one of them
+text-in : some (λ t. eqb t 50909) tags ≡ true
+unfolding tags table some
+text-in = refl
+
+module _ (is : Part → Bool) where
   -- the value of tag t, as the columns have it
   abbrev At : List Entry → ℕ → Bool
   At es t = is (part (fieldOf (λ e. e .start) t es) (fieldOf (λ e. e .len) t es))
 
-  at-here : (e : Entry) (es : List Entry) → At (e ∷ es) (e .tag) ≡ is (part (e .start) (e .len))
-  unfolding fieldOf
-  at-here e es = rw (eq-eqb (e .tag) (e .tag) refl)
+  -- one of all the values that the tag has, and one of those behind the first
+  abbrev Of : List Entry → ℕ → Bool
+  Of es t = some (λ e. eqb (e .tag) t && is (valuePart e)) es
 
-  at-other : (e : Entry) (es : List Entry) (t : ℕ) → eqb (e .tag) t ≡ false → At (e ∷ es) t ≡ At es t
-  unfolding fieldOf
-  at-other e es t h = rw h
+  abbrev Later : List Entry → ℕ → Bool
+  Later es t = some (λ e. is (valuePart e)) (drop 1 (keep (λ e. eqb (e .tag) t) es))
 
-  at-gone : (e : Entry) (es : List Entry) → ascendingFrom (e .tag) (map (λ x. x .tag) es) ≡ kept → At es (e .tag) ≡ false
-  at-gone e es h =
-      rw (absent-above (λ x. x .start) (e .tag) (e .tag) es (omega arith) h, absent-above (λ x. x .len) (e .tag) (e .tag) es (omega arith) h) (none 0)
-
-  -- an entry of another type has no bytes, so that it makes no difference whether its type is asked for
-  typed-is : (e : Entry) → (typed e ≡ false → e .len ≡ 0) → (inTable table (e .tag) && typed e) && is (part (e .start) (e .len)) ≡ inTable table (e .tag) && is (part (e .start) (e .len))
-  typed-is e u = go (inTable table (e .tag)) (typed e) refl
+  first-or-later : is (part 0 0) ≡ false → (t : ℕ) (es : List Entry) → Of es t ≡ At es t || Later es t
+  unfolding some keep fieldOf
+  first-or-later none t [] = rw none
+  first-or-later none t (e ∷ es) = go (eqb (e .tag) t) refl (first-or-later none t es)
     where
-      go : (a b : Bool) → typed e ≡ b → (a && b) && is (part (e .start) (e .len)) ≡ a && is (part (e .start) (e .len))
-      go false b q = refl
-      go true true q = refl
-      go true false q = let z : e .len ≡ 0 = u q in rw z (sym (none (e .start)))
+      go : (b : Bool) → eqb (e .tag) t ≡ b → Of es t ≡ At es t || Later es t → Of (e ∷ es) t ≡ At (e ∷ es) t || Later (e ∷ es) t
+      go true q r = rw q (ap (λ (b : Bool). is (valuePart e) || b) (sym (some-keep (λ e. eqb (e .tag) t) (λ e. is (valuePart e)) es)))
+      go false q r = rw q r
 
-  untyped : Entry → Bool
-  untyped e = typed e || eqb (e .len) 0
-
-  untyped-is : (e : Entry) → untyped e ≡ true → typed e ≡ false → e .len ≡ 0
-  unfolding untyped
-  untyped-is e h q = let w : eqb (e .len) 0 ≡ true = rw q at h in eqb-true _ _ w
-
-  in-tags : (x : ℕ) → some (λ t. eqb t x) tags ≡ inTable table x
-  unfolding tags table inTable some
-  in-tags x = refl
-
-  ascending-tail : (e : Entry) (es : List Entry) → ascendingFrom (e .tag) (map (λ x. x .tag) es) ≡ kept → ascending (map (λ x. x .tag) es) ≡ kept
-  unfolding ordered orderedFrom
-  ascending-tail e [] h = refl
-  ascending-tail e (x ∷ es) h = go (ltb (e .tag) (x .tag)) refl
+  -- an entry counts for its own tag alone
+  by-tag : (e : Entry) → some (λ t. eqb (e .tag) t && is (valuePart e)) tags ≡ inTable table (e .tag) && is (valuePart e)
+  by-tag e =
+      some-only (λ t. eqb (e .tag) t && is (valuePart e)) (e .tag) other tags
+      ∙ ap₂ (λ (a b : Bool). a && b) (in-tags (e .tag)) (rw (eq-eqb (e .tag) (e .tag) refl))
     where
-      go : (b : Bool) → ltb (e .tag) (x .tag) ≡ b → ascendingFrom (x .tag) (map (λ x. x .tag) es) ≡ kept
-      go true q = rw q at h
-      go false q = let w : broken (x .tag) ≡ kept = rw q at h in cc
+      other : (t : ℕ) → eqb t (e .tag) ≡ false → eqb (e .tag) t && is (valuePart e) ≡ false
+      other t n = rw (ne-eqb (e .tag) t (λ z. eqb-false t (e .tag) n (sym z)))
 
-  values-are : (es : List Entry) → ascending (map (λ x. x .tag) es) ≡ kept → all untyped es ≡ true → some (At es) tags ≡ some (listedIs table is) es
-  unfolding some all ordered fieldOf listed
-  values-are [] h u = none-of tags
+  -- so to go through the tags, and for each through the entries, is to go through the entries
+  by-tags : (es : List Entry) → some (Of es) tags ≡ some (λ e. inTable table (e .tag) && is (valuePart e)) es
+  unfolding some
+  by-tags [] = nothing tags
     where
-      none-of : (ts : List ℕ) → some (At []) ts ≡ false
-      none-of [] = refl
-      none-of (t ∷ ts) = rw (none 0) (none-of ts)
-  values-are (e ∷ es) h u =
-      let v = and-eq (untyped e) _ u in
-      let rest : some (At es) tags ≡ some (listedIs table is) es = values-are es (ascending-tail e es h) (v .1) in
-      some-one (At (e ∷ es)) (At es) (e .tag) tags tags-distinct (at-other e es) (at-gone e es h)
-      ∙ ap₂ (λ (a b : Bool). a || b)
-      (ap₂ (λ (a b : Bool). a && b) (in-tags (e .tag)) (at-here e es) ∙ sym (typed-is e (untyped-is e (v .0)))) rest
+      nothing : (ts : List ℕ) → some (λ t. false) ts ≡ false
+      nothing [] = refl
+      nothing (t ∷ ts) = nothing ts
+  by-tags (e ∷ es) =
+      some-or (λ t. eqb (e .tag) t && is (valuePart e)) (Of es) tags
+      ∙ ap₂ (λ (a b : Bool). a || b) (by-tag e) (by-tags es)
 
--- ---- the whole list
+  -- the columns have them all but those of 50909 behind the first
+  values-are : is (part 0 0) ≡ false → (es : List Entry) → rule6 es ≡ kept
+      → some (At es) tags || some (λ e. is (valuePart e)) (laterTexts es) ≡ some (λ e. inTable table (e .tag) && is (valuePart e)) es
+  unfolding rule6 some
+  values-are none es h =
+      sym (ap (λ (b : Bool). some (At es) tags || b) (some-only (Later es) 50909 once tags ∙ rw text-in))
+      ∙ sym (some-or (At es) (Later es) tags)
+      ∙ (λ i. some (λ t. sym (first-or-later none t es) i) tags)
+      ∙ by-tags es
+    where
+      once : (t : ℕ) → eqb t 50909 ≡ false → Later es t ≡ false
+      once t n = rw (no-other (λ e. e .tag) behind t (rises-behind t n) es h)
 
--- the directory's count stands at its start
-count-within : (is : Part → Bool) → ((at : ℕ) (l m : ℕ) → l ≤ m → is (part at l) ≡ true → is (part at m) ≡ true) → (at c : ℕ)
-    → is (part at 2) || is (part at (dirLen c)) ≡ is (part at (dirLen c))
-count-within is more at c = go (is (part at 2)) refl
-  where
-    go : (b : Bool) → is (part at 2) ≡ b → b || is (part at (dirLen c)) ≡ is (part at (dirLen c))
-    go true e = sym (more at 2 (dirLen c) (omega arith) e)
-    go false e = refl
+-- ---- the parts of the columns, in order: the table's tags, the head, the directory
 
-shares-none : (a : Part) (s : ℕ) → shares a (part s 0) ≡ false
-unfolding shares
-shares-none a s = let l : min (a .start + a .len) (s + 0) ≤ max (a .start) s = omega arith in le-ltb _ _ l
-
-shares-more : (a : Part) (at l m : ℕ) → l ≤ m → shares a (part at l) ≡ true → shares a (part at m) ≡ true
-unfolding shares
-shares-more a at l m h q =
-    let w : max (a .start) at < min (a .start + a .len) (at + l) = ltb-true _ _ q in
-    let v : max (a .start) at < min (a .start + a .len) (at + m) = omega arith in
-    lt-ltb _ _ v
+built-are : (is : Part → Bool) (at c : ℕ) (es : List Entry)
+    → some is (build (partAt (startColumn at es) (lenColumn c es)) 0 23) ≡ some (At is es) tags || (is (part 0 8) || is (part at (dirLen c)))
+unfolding partAt build startColumn lenColumn column tags table some
+built-are is at c es = simp (or-false, or-assoc)
 
 -- ---- a value of at most 4 bytes stands in its entry, and so in the directory
 
@@ -167,153 +165,120 @@ shares-inside a s l at m h k q =
     let v : max (a .start) at < min (a .start + a .len) (at + m) = omega arith in
     lt-ltb _ _ v
 
--- it is longer, or lies from `at` up to m bytes further
-inner : ℕ → ℕ → Entry → Bool
-inner at m e = ltb 4 (e .len) || (leb at (e .start) && leb (e .start + e .len) (at + m))
-
-entry-inner : (big : Bool) (at c : ℕ) (dir : List ℕ) (j : ℕ) → j < c → inner at (dirLen c) (entryAt big at dir j) ≡ true
-unfolding inner entryOf startOf
-entry-inner big at c dir j l = go (ltb 4 Len) refl
+-- what lies in a part adds nothing to it
+within : (a : Part) (s l at m : ℕ) → at ≤ s → s + l ≤ at + m → shares a (part s l) || shares a (part at m) ≡ shares a (part at m)
+within a s l at m h k = go (shares a (part s l)) refl
   where
-    Len : ℕ
-    Len = sizeOf (num big 2 dir (2 + 12 * j + 2)) * num big 4 dir (2 + 12 * j + 4)
+    go : (b : Bool) → shares a (part s l) ≡ b → b || shares a (part at m) ≡ shares a (part at m)
+    go true e = sym (shares-inside a s l at m h k e)
+    go false e = refl
 
-    go : (b : Bool) → ltb 4 Len ≡ b → inner at (dirLen c) (entryAt big at dir j) ≡ true
-    go true e = rw e
-    go false e =
-        let h : Len ≤ 4 = ltb-false _ _ e in
-        let low : at ≤ at + (2 + 12 * j + 8) = omega arith in
-        let high : at + (2 + 12 * j + 8) + Len ≤ at + dirLen c = omega arith in
-        rw (e, le-leb Len 4 h, le-leb at (at + (2 + 12 * j + 8)) low, le-leb (at + (2 + 12 * j + 8) + Len) (at + dirLen c) high)
+near-start : (big : Bool) (at : ℕ) (dir : List ℕ) (p : ℕ) → entryOf big at dir p .len ≤ 4 → entryOf big at dir p .start ≡ at + (p + 8)
+unfolding entryOf startOf
+near-start big at dir p h = rw (le-leb (sizeOf (num big 2 dir (p + 2)) * num big 4 dir (p + 4)) 4 h)
 
--- so what shares a byte with a tag's short value shares one with the directory
-short-inside : (a : Part) (at m t : ℕ) (es : List Entry) → all (inner at m) es ≡ true → ltb 4 (fieldOf (λ e. e .len) t es) ≡ false
-    → shares a (part (fieldOf (λ e. e .start) t es) (fieldOf (λ e. e .len) t es)) ≡ true → shares a (part at m) ≡ true
-unfolding all fieldOf inner
-short-inside a at m t [] h w q = absurd (false≢true (sym (shares-none a 0) ∙ q))
-short-inside a at m t (e ∷ es) h w q = go (eqb (e .tag) t) refl (short-inside a at m t es)
+-- so beside the directory only the longer values of the table's tags count; an entry of another type has no value bytes
+entry-same : (a : Part) (big : Bool) (at c : ℕ) (dir : List ℕ) (j : ℕ) → j < c
+    → (inTable table (entryAt big at dir j .tag) && (wide (valuePart (entryAt big at dir j)) && shares a (valuePart (entryAt big at dir j)))) || shares a (part at (dirLen c))
+    ≡ listedIs table (shares a) (entryAt big at dir j) || shares a (part at (dirLen c))
+unfolding wide listed
+entry-same a big at c dir j l = go (ltb 4 (E .len)) refl (typed E) refl
   where
-    both : (inner at m e ≡ true) × (all (inner at m) es ≡ true)
-    both = and-eq (inner at m e) _ h
+    E : Entry
+    E = entryAt big at dir j
 
-    go : (b : Bool) → eqb (e .tag) t ≡ b
-        → (all (inner at m) es ≡ true → ltb 4 (fieldOf (λ e. e .len) t es) ≡ false
-        → shares a (part (fieldOf (λ e. e .start) t es) (fieldOf (λ e. e .len) t es)) ≡ true → shares a (part at m) ≡ true)
-        → shares a (part at m) ≡ true
-    go true k rest = here (rw k at w) (rw k at q) (both .0)
-      where
-        here : ltb 4 (e .len) ≡ false → shares a (part (e .start) (e .len)) ≡ true → inner at m e ≡ true → shares a (part at m) ≡ true
-        here u r i =
-            let j : leb at (e .start) && leb (e .start + e .len) (at + m) ≡ true = rw u at i in
-            let n = and-eq (leb at (e .start)) _ j in
-            shares-inside a (e .start) (e .len) at m (leb-true _ _ (n .0)) (leb-true _ _ (n .1)) r
-    go false k rest = rest (both .1) (rw k at w) (rw k at q)
+    In : Bool
+    In = inTable table (E .tag)
 
--- ---- the parts of the columns, in order: the table's tags, the head, the directory
+    Meets : Bool
+    Meets = shares a (valuePart E)
 
-some-keep : {A : Type 0} (ok is : A → Bool) (xs : List A) → some is (keep ok xs) ≡ some (λ x. ok x && is x) xs
-unfolding some keep
-some-keep ok is [] = refl
-some-keep ok is (x ∷ xs) = go (ok x) (some-keep ok is xs)
-  where
-    go : (b : Bool) → some is (keep ok xs) ≡ some (λ x. ok x && is x) xs → some is (cond b (x ∷ keep ok xs) (keep ok xs)) ≡ (b && is x) || some (λ x. ok x && is x) xs
-    go true e = ap (λ (c : Bool). is x || c) e
-    go false e = e
+    Dir : Bool
+    Dir = shares a (part at (dirLen c))
 
-built-are : (is : Part → Bool) (at c : ℕ) (es : List Entry)
-    → some is (build (partAt (startColumn at es) (lenColumn c es)) 0 23)
-    ≡ some (λ t. is (part (fieldOf (λ e. e .start) t es) (fieldOf (λ e. e .len) t es))) tags || (is (part 0 8) || is (part at (dirLen c)))
-unfolding partAt build startColumn lenColumn column tags table some
-built-are is at c es = simp (or-false, or-assoc)
+    none-more : (t m d : Bool) → m || d ≡ d → (t && m) || d ≡ d
+    none-more true m d h = h
+    none-more false m d h = refl
 
--- tests that differ only where d is true
-some-either : (p q : ℕ → Bool) (d : Bool) (ts : List ℕ) → ((t : ℕ) → p t || d ≡ q t || d) → some p ts || d ≡ some q ts || d
-unfolding some
-some-either p q true ts h = rw (or-true (some p ts), or-true (some q ts))
-some-either p q false ts h = ap (λ (b : Bool). b || false) (same ts)
-  where
-    same : (ts : List ℕ) → some p ts ≡ some q ts
-    same [] = refl
-    same (t ∷ ts) = ap₂ (λ (a b : Bool). a || b) (sym (or-false (p t)) ∙ h t ∙ or-false (q t)) (same ts)
+    go : (b : Bool) → ltb 4 (E .len) ≡ b → (t : Bool) → typed E ≡ t → (In && (b && Meets)) || Dir ≡ ((In && t) && Meets) || Dir
+    go true q true u = ap (λ (b : Bool). (b && Meets) || Dir) (sym (and-true In))
+    go true q false u =
+        let m : 4 < E .len = ltb-true 4 (E .len) q in
+        let z : E .len ≡ 0 = untyped-len big at dir (2 + 12 * j) u in
+        absurd (omega arith)
+    go false q t u =
+        let m : E .len ≤ 4 = ltb-false 4 (E .len) q in
+        let s : E .start ≡ at + (2 + 12 * j + 8) = near-start big at dir (2 + 12 * j) m in
+        let w : Meets || Dir ≡ Dir = within a (E .start) (E .len) at (dirLen c) (omega arith) (omega arith) in
+        rw (and-false In) (sym (none-more (In && t) Meets Dir w))
 
--- the parts of at most 4 bytes make no difference
-parts-are : (a : Part) (at c : ℕ) (es : List Entry) → all (inner at (dirLen c)) es ≡ true
-    → some (shares a) (partsOf (startColumn at es) (lenColumn c es) 23)
-    ≡ some (λ t. shares a (part (fieldOf (λ e. e .start) t es) (fieldOf (λ e. e .len) t es))) tags || (shares a (part 0 8) || shares a (part at (dirLen c)))
-unfolding partsOf wide
-parts-are a at c es h =
-    some-keep wide (shares a) (build (partAt (startColumn at es) (lenColumn c es)) 0 23)
-    ∙ built-are (λ x. wide x && shares a x) at c es
-    ∙ ap (λ (b : Bool). some (λ t. wide (Value t) && shares a (Value t)) tags || (shares a (part 0 8) || (b && shares a (part at (dirLen c))))) (lt-ltb 4 (dirLen c) (omega arith))
-    ∙ some-either (λ t. wide (Value t) && shares a (Value t)) (λ t. shares a (Value t)) Rest tags either
-  where
-    Value : ℕ → Part
-    Value t = part (fieldOf (λ e. e .start) t es) (fieldOf (λ e. e .len) t es)
-
-    Rest : Bool
-    Rest = shares a (part 0 8) || shares a (part at (dirLen c))
-
-    either : (t : ℕ) → (wide (Value t) && shares a (Value t)) || Rest ≡ shares a (Value t) || Rest
-    either t = go (wide (Value t)) (shares a (Value t)) refl refl
-      where
-        go : (u v : Bool) → wide (Value t) ≡ u → shares a (Value t) ≡ v → (u && v) || Rest ≡ v || Rest
-        go true v e f = refl
-        go false false e f = refl
-        go false true e f =
-            let d : shares a (part at (dirLen c)) ≡ true = short-inside a at (dirLen c) t es h e f in
-            rw (d, or-true (shares a (part 0 8)))
-
-all-build : (ok : Entry → Bool) (g : ℕ → Entry) (i k : ℕ) → ((j : ℕ) → ok (g j) ≡ true) → all ok (build g i k) ≡ true
-unfolding all build
-all-build ok g i zero h = refl
-all-build ok g i (suc k) h = rw (h i) (all-build ok g (suc i) k h)
-
-all-below : (ok : Entry → Bool) (g : ℕ → Entry) (c i k : ℕ) → i + k ≤ c → ((j : ℕ) → j < c → ok (g j) ≡ true) → all ok (build g i k) ≡ true
-unfolding all build
-all-below ok g c i zero l h = refl
-all-below ok g c i (suc k) l h = rw (h i (omega arith)) (all-below ok g c (suc i) k (omega arith) h)
+-- ---- the whole list
 
 module _ (f : List ℕ) (big : Bool) (at c : ℕ) (dir : List ℕ) (kept6 : rule6 (entries big at c dir) ≡ kept) where
   abbrev Es : List Entry
   Es = entries big at c dir
 
+  -- the longer values of 50909 behind the first, and the parts of the columns
+  abbrev Parts : List Part
+  Parts = keep wide (laterParts Es) ++ partsOf (startColumn at Es) (lenColumn c Es) 23
+
   module _ (a : Part) where
-    typed-or-none : (j : ℕ) → untyped (shares a) (shares-none a) (entryAt big at dir j) ≡ true
-    unfolding untyped
-    typed-or-none j = go (typed (entryAt big at dir j)) refl
-      where
-        go : (b : Bool) → typed (entryAt big at dir j) ≡ b → typed (entryAt big at dir j) || eqb (entryAt big at dir j .len) 0 ≡ true
-        go true e = rw e
-        go false e = rw (e, untyped-len big at dir (2 + 12 * j) e)
+    -- one of more than 4 bytes that shares a byte with a
+    abbrev far : Part → Bool
+    far p = wide p && shares a p
 
-    all-untyped : all (untyped (shares a) (shares-none a)) Es ≡ true
+    abbrev Firsts : Bool
+    Firsts = some (At far Es) tags
+
+    abbrev Laters : Bool
+    Laters = some (λ e. far (valuePart e)) (laterTexts Es)
+
+    abbrev Head : Bool
+    Head = shares a (part 0 8)
+
+    abbrev Count : Bool
+    Count = shares a (part at 2)
+
+    abbrev Dir : Bool
+    Dir = shares a (part at (dirLen c))
+
+    later-are : some (shares a) (keep wide (laterParts Es)) ≡ Laters
+    unfolding laterParts
+    later-are = some-keep wide (shares a) (laterParts Es) ∙ some-map far (λ e. part (e .start) (e .len)) (laterTexts Es)
+
+    first-are : some (shares a) (partsOf (startColumn at Es) (lenColumn c Es) 23) ≡ Firsts || (Head || Dir)
+    unfolding partsOf wide
+    first-are =
+        some-keep wide (shares a) (build (partAt (startColumn at Es) (lenColumn c Es)) 0 23)
+        ∙ built-are far at c Es
+        ∙ ap (λ (b : Bool). Firsts || (Head || (b && Dir))) (lt-ltb 4 (dirLen c) (omega arith))
+
+    -- beside the directory, the longer values are all
+    values-same : some (λ e. inTable table (e .tag) && far (valuePart e)) Es || Dir ≡ some (listedIs table (shares a)) Es || Dir
     unfolding entries
-    all-untyped = all-build (untyped (shares a) (shares-none a)) (entryAt big at dir) 0 c typed-or-none
+    values-same =
+        some-either (λ e. inTable table (e .tag) && far (valuePart e)) (listedIs table (shares a)) Dir (entryAt big at dir) c 0 c (omega arith) (entry-same a big at c dir)
 
-    all-inner : all (inner at (dirLen c)) Es ≡ true
-    unfolding entries
-    all-inner = all-below (inner at (dirLen c)) (entryAt big at dir) c 0 c (omega arith) (entry-inner big at c dir)
+    regroup : (l v h k d w x : Bool) → v || l ≡ w → w || d ≡ x || d → k || d ≡ d → l || (v || (h || d)) ≡ h || (k || (d || x))
+    regroup l v h k true w x p q r = rw (or-true h, or-true v, or-true l, or-true k, or-true h)
+    regroup l v true k false w x p q r = rw (or-true v, or-true l)
+    regroup l v false k false w x p q r =
+        let z : k ≡ false = sym (or-false k) ∙ r in
+        rw (z, or-false v) (or-comm l v ∙ p ∙ sym (or-false w) ∙ q ∙ or-false x)
 
-    regroup : (h k d v : Bool) → k || d ≡ d → v || (h || d) ≡ h || (k || (d || v))
-    regroup true k d v e = or-true v
-    regroup false true d v e = let w : d ≡ true = sym e in rw w (or-true v)
-    regroup false false true v e = or-true v
-    regroup false false false v e = or-false v
-
-    -- a place shares a byte with the columns' parts exactly where it shares one with the full reading list
-    pub columns-list : some (shares a) (partsOf (startColumn at Es) (lenColumn c Es) 23) ≡ some (shares a) (fullList table at c (map (hold table f) Es))
-    unfolding rule6 fullList some
+    -- a place shares a byte with them exactly where it shares one with the full reading list
+    pub columns-list : some (shares a) Parts ≡ some (shares a) (fullList table at c (map (hold table f) Es))
+    unfolding fullList some wide
     columns-list =
-        parts-are a at c Es all-inner
-        ∙ ap (λ (v : Bool). v || (shares a (part 0 8) || shares a (part at (dirLen c)))) (values-are (shares a) (shares-none a) Es kept6 all-untyped ∙ sym (some-values table (shares a) f Es))
-        ∙ regroup (shares a (part 0 8)) (shares a (part at 2)) (shares a (part at (dirLen c))) _ (count-within (shares a) (shares-more a) at c)
+        some-append (shares a) (keep wide (laterParts Es)) (partsOf (startColumn at Es) (lenColumn c Es) 23)
+        ∙ ap₂ (λ (l v : Bool). l || v) later-are first-are
+        ∙ regroup Laters Firsts Head Count Dir _ _ (values-are far refl Es kept6) values-same (within a at 2 at (dirLen c) (omega arith) (omega arith))
+        ∙ ap (λ (v : Bool). Head || (Count || (Dir || v))) (sym (some-values table (shares a) f Es))
 
-  -- so rules 13 and 14 over the columns are those over the list
+  -- so rules 13 and 14 over them are those over the list
   pub columns-judged : (n : ℕ) (ss : List Piece)
-      → placesJudged n (partsOf (startColumn at Es) (lenColumn c Es) 23) ss
-      ≡ first (13 ▸ rule13 n ss ∷ 14 ▸ rule14 (fullList table at c (map (hold table f) Es)) ss ∷ [])
+      → placesJudged n Parts ss ≡ first (13 ▸ rule13 n ss ∷ 14 ▸ rule14 (fullList table at c (map (hold table f) Es)) ss ∷ [])
   unfolding placesJudged rule14 touches
   columns-judged n ss =
       ap (λ (o : Outcome). first (13 ▸ rule13 n ss ∷ 14 ▸ o ∷ []))
-      (first-same (touches (partsOf (startColumn at Es) (lenColumn c Es) 23)) (touches (fullList table at c (map (hold table f) Es)))
-      (λ s. s .index) ss noPiece (λ i l. columns-list (getD ss i noPiece .place)))
+      (first-same (touches Parts) (touches (fullList table at c (map (hold table f) Es))) (λ s. s .index) ss noPiece (λ i l. columns-list (getD ss i noPiece .place)))

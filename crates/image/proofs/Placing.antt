@@ -4,30 +4,34 @@ use Prim.Native.Nat.{ℕ, zero, suc, _+_, _*_, _≤_, _<_, zero-le, suc-le-suc}
 use mathlib.Core.Path.{_≡_, refl, sym, ap, _∙_, subst}
 use mathlib.Core.Bool.{Bool, true, false, cond, not, _||_, false≢true}
 use mathlib.Core.List.{List, [], _∷_, _++_, map}
-use native.Mathlib.Nat.{mul-le-mul}
+use native.Mathlib.Nat.{one-mul, mul-le-mul}
 use native.Mathlib.Omega.{arith}
-use lib.Dec.{eqb, leb, lit<}
+use lib.Dec.{eqb, leb, ltb, lit<}
 use lib.ListN.{length, getD, List·getD-append}
-use borrow.Author.Tests.{eqb-true, le-ltb, not-true}
+use borrow.Author.Tests.{eqb-true, le-ltb, ltb-true, lt-leb, not-true, not-false}
 use Rattle.order.specs.Width.{width}
-use Rattle.paper.specs.Bytes.{run, build}
-use Rattle.paper.specs.Tests.{all, keep}
-use Rattle.paper.proofs.Laws.{and-eq}
-use Rattle.paper.specs.Layout.{dirLen, sizeOf}
-use Rattle.paper.specs.Tags.{Held, table, find, countOf, tiled, offsetsTag, byteCountsTag, pieceCount}
+use Rattle.paper.specs.Bytes.{run, num, build}
+use Rattle.paper.specs.Tests.{all, some, keep}
+use Rattle.paper.proofs.Laws.{and-eq, or-same, or-false}
+use Rattle.paper.specs.Layout.{dirLen, sizeOf, startOf, entryOf}
+use Rattle.paper.specs.Tags.{Held, table, fitsLine, find, countOf, tiled, offsetsTag, byteCountsTag, pieceCount}
 use Rattle.paper.specs.Pieces.{part, placesOf, pieces}
 use Rattle.paper.specs.declared.Part.{Part}
+use Rattle.paper.specs.declared.Entry.{Entry}
 use Rattle.paper.specs.Judge.{View, piecesOf, fullOf, pieceRules}
 use Rattle.layout.specs.Columns.{tags, column, startColumn, lenColumn}
+use Rattle.layout.specs.Repeats.{entriesFrom}
+use Rattle.layout.specs.declared.Further.{Further}
 use Rattle.tags.specs.Slots.{lineAt, tagAt, offsetsSlot, byteCountsSlot}
 use Rattle.tags.specs.Tagging.{entriesAt, heldAt, viewOf}
-use Rattle.tags.proofs.Slots.{Slot, slot}
+use Rattle.tags.proofs.Slots.{Slot, slot, later-fit}
+use Rattle.tags.proofs.Answers.{later-holds, later-lent}
 use Rattle.tags.proofs.Rules.{lined, needed-lined}
 use Rattle.tags.proofs.Accepted.{Accepted, accepted, PieceColumn}
-use Rattle.pieces.specs.Gaps.{Addable, partAt, wide, partsOf, placesJudged}
+use Rattle.pieces.specs.Gaps.{Addable, partAt, wide, partsOf, namedAt, namedParts, placesJudged}
 use Rattle.paper.specs.declared.Verdict.{Verdict}
 use Rattle.image.specs.Stages.{Fits, piecesJudged, outerOf}
-use Rattle.image.proofs.Listed.{columns-judged}
+use Rattle.image.proofs.Listed.{laterParts, valuePart, columns-judged}
 
 -- a list of parts with those that are chosen alone: none of the others counts
 kept-chosen : (ps : ℕ → Part) (chosen : ℕ → Bool) (ks : List ℕ) → all (λ k. chosen k || not (wide (ps k))) ks ≡ true
@@ -80,7 +84,47 @@ outer-length : (xs : List ℕ) (a b : ℕ) → 12 ≤ length (outerOf xs a b)
 unfolding outerOf
 outer-length xs a b = omega arith
 
-module _ {f : List ℕ} {big : Bool} {at c : ℕ} {t : Bool} {typs counts starts lens : List ℕ} (p : Fits f big at c t typs counts starts lens) where
+-- ---- the parts that entries of BYTEs name
+
+-- one such entry: a value of more than 4 bytes starts at the offset
+module _ (big : Bool) (start : ℕ) (s : List ℕ) where
+  abbrev Read : ℕ → Entry
+  Read j = entryOf big start s (12 * j)
+
+  byte-part : (j : ℕ) (rest : List Part) → fitsLine (lineAt 20) (Read j) ≡ true
+      → cond (wide (namedAt big s j)) (namedAt big s j ∷ rest) rest ≡ cond (wide (valuePart (Read j))) (valuePart (Read j) ∷ rest) rest
+  unfolding wide namedAt entryOf startOf fitsLine lineAt table sizeOf
+  byte-part j rest fit =
+      let t : num big 2 s (12 * j + 2) ≡ 1 = eqb-true _ _ (or-same _ (and-eq (eqb (num big 2 s (12 * j + 2)) 1 || eqb (num big 2 s (12 * j + 2)) 1) _ fit .0)) in
+      rw (t, one-mul (num big 4 s (12 * j + 4))) (go (ltb 4 (num big 4 s (12 * j + 4))) refl)
+    where
+      Count : ℕ
+      Count = num big 4 s (12 * j + 4)
+
+      Offset : ℕ
+      Offset = num big 4 s (12 * j + 8)
+
+      go : (b : Bool) → ltb 4 Count ≡ b
+          → cond (ltb 4 Count) (part Offset Count ∷ rest) rest ≡ cond (ltb 4 Count) (part (cond (leb Count 4) (start + (12 * j + 8)) Offset) Count ∷ rest) rest
+      go true e = rw (e, lt-leb Count 4 (ltb-true 4 Count e))
+      go false e = rw e
+
+  byte-parts : (i m : ℕ) → some (λ e. not (fitsLine (lineAt 20) e)) (build Read i m) ≡ false
+      → keep wide (build (namedAt big s) i m) ≡ keep wide (map valuePart (build Read i m))
+  unfolding build some keep
+  byte-parts i zero h = refl
+  byte-parts i (suc m) h =
+      let o = or-false (not (fitsLine (lineAt 20) (Read i))) _ h in
+      ap (λ (rest : List Part). cond (wide (namedAt big s i)) (namedAt big s i ∷ rest) rest) (byte-parts (suc i) m (o .1))
+      ∙ byte-part i (keep wide (map valuePart (build Read (suc i) m))) (not-false _ (o .0))
+
+named-are : (big : Bool) (start many : ℕ) (s : List ℕ) {es : List Entry} → entriesFrom big start s many ≡ es
+    → some (λ e. not (fitsLine (lineAt 20) e)) es ≡ false → namedParts big s many ≡ keep wide (map valuePart es)
+unfolding entriesFrom namedParts
+named-are big start many s is h =
+    byte-parts big start s 0 many (ap (some (λ e. not (fitsLine (lineAt 20) e))) is ∙ h) ∙ ap (λ (xs : List Entry). keep wide (map valuePart xs)) is
+
+module _ {f : List ℕ} {big : Bool} {at c : ℕ} {t : Bool} {typs counts starts lens : List ℕ} {r : Further} (p : Fits f big at c t typs counts starts lens r) where
   abbrev Looked : View
   Looked = viewOf f big at c
 
@@ -214,6 +258,16 @@ module _ {f : List ℕ} {big : Bool} {at c : ℕ} {t : Bool} {typs counts starts
       rest (suc zero) = let w = p .passed .ready .few in omega arith
       rest (suc (suc k)) = lit< tt
 
+  -- the further entries of 50909 are BYTEs, so that the parts which they name are those of their values
+  abbrev Front : List Part
+  Front = keep wide (laterParts (entriesAt f big at c))
+
+  later-are : namedParts big (run f (r .start) (12 * r .many)) (r .many) ≡ Front
+  unfolding laterParts entriesAt
+  later-are =
+      let h = later-holds (p .passed .ready) (p .passed .behind) in
+      named-are big (r .start) (r .many) (run f (r .start) (12 * r .many)) (h .are) (later-fit f big at c typs counts starts lens (p .passed .ready) (told .ten))
+
   -- the pieces, whose offsets have slot x and byte counts slot y
   module _ {x y : ℕ} (is-x : x ≡ offsetsSlot t) (is-y : y ≡ byteCountsSlot t) where
     abbrev Hs : List Held
@@ -251,7 +305,8 @@ module _ {f : List ℕ} {big : Bool} {at c : ℕ} {t : Bool} {typs counts starts
     outer-parts = (λ i. partsOf (outerOf starts (is-x i) (is-y i)) (outerOf lens (is-x i) (is-y i)) 12) ∙ parts-at t (p .tiled-is)
 
     -- the two runs and the two columns that the pass over the places is handed
-    module _ {os bs ss ls : List ℕ} (is-o : os ≡ Stood x) (is-b : bs ≡ Stood y) (is-s : ss ≡ outerOf starts x y) (is-l : ls ≡ outerOf lens x y) where
+    module _ {os bs ss ls fs : List ℕ} (is-o : os ≡ Stood x) (is-b : bs ≡ Stood y) (is-s : ss ≡ outerOf starts x y) (is-l : ls ≡ outerOf lens x y)
+        (is-f : fs ≡ run f (r .start) (12 * r .many)) where
       -- what it asks
       pub places-asked : (getD counts x 0 < 4294967296)
           × (Wide x * getD counts x 0 ≤ length os)
@@ -262,6 +317,7 @@ module _ {f : List ℕ} {big : Bool} {at c : ℕ} {t : Bool} {typs counts starts
           × Addable ls
           × (8 ≤ length f)
           × (length f ≤ 4294967295)
+          × (12 * r .many ≤ length fs)
       places-asked =
           rw (is-o, is-b, is-s, is-l) (
             few,
@@ -273,15 +329,18 @@ module _ {f : List ℕ} {big : Bool} {at c : ℕ} {t : Bool} {typs counts starts
             outer-addable lens x y lens-addable,
             file-eight,
             p .passed .ready .size,
+            later-lent (p .passed .ready) (p .passed .behind) is-f .0,
           )
 
       -- and what it answers, of the view
-      pub pieces-seen : (v : Verdict) → v ≡ placesJudged (length f) (partsOf ss ls 12) (placesOf big (Wide x) os (Wide y) bs (getD counts x 0)) → v ≡ piecesJudged Looked
+      pub pieces-seen : (v : Verdict)
+          → v ≡ placesJudged (length f) (namedParts big fs (r .many) ++ partsOf ss ls 12) (placesOf big (Wide x) os (Wide y) bs (getD counts x 0)) → v ≡ piecesJudged Looked
       unfolding piecesJudged pieceRules fullOf viewOf entriesAt heldAt
       pieces-seen v e =
-          let r = p .passed .ready in
+          let k = p .passed .ready in
+          let named : namedParts big fs (r .many) ≡ keep wide (laterParts (entriesAt f big at c)) = ap (λ (s : List ℕ). namedParts big s (r .many)) is-f ∙ later-are in
           e
-          ∙ (λ i. placesJudged (length f) (partsOf (is-s i) (is-l i) 12) (placesOf big (Wide x) (is-o i) (Wide y) (is-b i) (getD counts x 0)))
-          ∙ (λ i. placesJudged (length f) (outer-parts i) (places-are i))
-          ∙ (λ i. placesJudged (length f) (partsOf (r .starts-are i) (r .lens-are i) 23) (piecesOf Looked))
-          ∙ columns-judged f big at c (run f at (dirLen c)) (p .passed .six) (length f) (piecesOf Looked)
+          ∙ (λ i. placesJudged (length f) (named i ++ partsOf (is-s i) (is-l i) 12) (placesOf big (Wide x) (is-o i) (Wide y) (is-b i) (getD counts x 0)))
+          ∙ (λ i. placesJudged (length f) (Front ++ outer-parts i) (places-are i))
+          ∙ (λ i. placesJudged (length f) (Front ++ partsOf (k .starts-are i) (k .lens-are i) 23) (piecesOf Looked))
+          ∙ columns-judged f big at c (run f at (dirLen c)) (p .passed .behind .six) (length f) (piecesOf Looked)

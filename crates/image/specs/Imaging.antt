@@ -2,7 +2,7 @@
 -- Assumes nothing.
 use Prim.Native.Nat.{ℕ}
 use mathlib.Core.Bool.{false, cond}
-use mathlib.Core.List.{List}
+use mathlib.Core.List.{List, map}
 use Rattle.paper.specs.Outcome.{verdict}
 use Rattle.paper.specs.Tag
 use Rattle.paper.specs.Tags.{Held, find, valueOf}
@@ -11,6 +11,7 @@ use Rattle.paper.specs.declared.Part.{Part}
 use Rattle.paper.specs.Judge.{View, view, headIn, nextIn, imageStage}
 use Rattle.paper.specs.Calls.{accepts}
 use Rattle.paper.specs.declared.Verdict.{Verdict}
+use Rattle.layout.specs.Repeats.{noFurther, furtherOf}
 use Rattle.image.specs.declared.Image.{Image}
 
 -- where the value of a tag stands; nowhere, with no byte, where the tag is absent
@@ -35,6 +36,7 @@ imageIn v next =
       tiepoint = tagPart Tag.tiepoint (v .held);
       matrix = tagPart Tag.matrix (v .held);
       metadata = tagPart Tag.metadata (v .held);
+      further = furtherOf (v .head .at) (map (λ h. h .entry) (v .held));
     }
 
 abbrev pub noImage : Verdict → Image
@@ -52,6 +54,7 @@ noImage w =
       tiepoint = noPart;
       matrix = noPart;
       metadata = noPart;
+      further = noFurther;
     }
 
 -- what the verdict w of these rules lets be told of a view

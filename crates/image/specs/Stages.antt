@@ -5,29 +5,28 @@ use mathlib.Core.Bool.{Bool}
 use mathlib.Core.List.{List, [], _∷_}
 use lib.ListN.{length, getD}
 use Rattle.paper.specs.Outcome.{first}
-use Rattle.paper.specs.Layout.{rule6}
 use Rattle.paper.specs.Tags.{tiled}
 use Rattle.paper.specs.Judge.{View, fullOf, pieceRules}
-use Rattle.paper.specs.declared.Outcome.the-variants.{Kept as kept}
 use Rattle.paper.specs.declared.Verdict.{Verdict}
 use Rattle.layout.specs.Opening.{headedOf, openedOf}
 use Rattle.layout.specs.declared.Headed.the-variants.{Good}
 use Rattle.layout.specs.declared.Opened.the-variants.{Laid}
-use Rattle.tags.specs.Tagging.{entriesAt, heldAt, viewOf, taggedOf, Ready}
+use Rattle.layout.specs.declared.Further.{Further}
+use Rattle.tags.specs.Tagging.{heldAt, viewOf, taggedOf, Ready, Behind}
 
 -- rules 1 to 5 are kept, and the directory of c entries is laid at a place
 pub record Opening (f : List ℕ) (big : Bool) (at c : ℕ) : Type 0 where
   pub head : headedOf f ≡ Good big at
   pub count : openedOf f (record { size = length f; big = big; at = at }) ≡ Laid c
 
--- rules 1 to 8 are kept, and the columns are those of the directory
-pub record Passed (f : List ℕ) (big : Bool) (at c : ℕ) (typs counts starts lens : List ℕ) : Type 0 where
+-- rules 1 to 8 are kept, and the columns and the further entries of 50909 are those of the directory
+pub record Passed (f : List ℕ) (big : Bool) (at c : ℕ) (typs counts starts lens : List ℕ) (r : Further) : Type 0 where
   pub ready : Ready f big at c typs counts starts lens
-  pub six : rule6 (entriesAt f big at c) ≡ kept
+  pub behind : Behind f big at c r
 
 -- rules 27 and 9 to 12 too, and the picture is in tiles or not
-pub record Fits (f : List ℕ) (big : Bool) (at c : ℕ) (t : Bool) (typs counts starts lens : List ℕ) : Type 0 where
-  pub passed : Passed f big at c typs counts starts lens
+pub record Fits (f : List ℕ) (big : Bool) (at c : ℕ) (t : Bool) (typs counts starts lens : List ℕ) (r : Further) : Type 0 where
+  pub passed : Passed f big at c typs counts starts lens r
   pub twelve : taggedOf (viewOf f big at c) .verdict .number ≡ 0
   pub tiled-is : t ≡ tiled (heldAt f big at c)
 

@@ -1,5 +1,5 @@
 // The image of a file, rules 1 to 14 and 27: its head, its directory by the table, where its pieces lie. What it leaves is the picture's size, the byte
-// order, the next offset and where the values stand that others read; the survey judges some of these.
+// order, the next offset and where the values stand that others read, and where 50909 stands more than once; the survey judges some of these.
 ghost use mathlib.Core.Path.{_≡_};
 ghost use Prim.Native.Nat.{_<_};
 ghost use lib.ListN.{getD};
@@ -9,6 +9,7 @@ ghost use Rattle.layout.specs.declared.Headed.the-variants.{Good};
 ghost use Rattle.tags.specs.Tagging.{viewOf};
 ghost use Rattle.image.specs.Imaging.{noImage, imageBy, imageOf};
 ghost use Rattle.image.specs.Stages.{Opening, Passed, Fits, piecesJudged, outerOf};
+use layout::Further;
 use paper::Part;
 use paper::Verdict;
 
@@ -27,6 +28,7 @@ pub struct Image {
     pub tiepoint: Part,
     pub matrix: Part,
     pub metadata: Part,
+    pub further: Further,
 }
 
 // What is told where a rule is broken.
@@ -47,6 +49,7 @@ fn no_image(verdict: Verdict) -> Image
         tiepoint: none,
         matrix: none,
         metadata: none,
+        further: Further { start: 0, many: 0 },
     }
 }
 
@@ -83,7 +86,7 @@ fn outer(column: &[usize; 23], a: usize, b: usize) -> [usize; 12]
     ]
 }
 
-// Rules 13 and 14, over the runs of the pieces' offsets and byte counts.
+// Rules 13 and 14, over the runs of the pieces' offsets and byte counts. The reading list is that of the columns and of the further entries of 50909.
 fn judge_pieces(
     file: &[u8],
     big: bool,
@@ -94,8 +97,9 @@ fn judge_pieces(
     counts: &[usize; 21],
     starts: &[usize; 23],
     lens: &[usize; 23],
+    further: Further,
 ) -> Verdict
-    requires { ⌜ Fits (now file) big at c tiled (now typs) (now counts) (now starts) (now lens) ⌝ }
+    requires { ⌜ Fits (now file) big at c tiled (now typs) (now counts) (now starts) (now lens) further ⌝ }
     ensures { λ r. ⌜ r ≡ piecesJudged (viewOf (now (file .entry)) big at c) ⌝ }
 {
     let a = tags::offsets_slot(tiled);
@@ -104,6 +108,7 @@ fn judge_pieces(
     let bytecounts = layout::value(file, starts[b], lens[b]);
     let outerstarts = outer(starts, a, b);
     let outerlens = outer(lens, a, b);
+    let later = layout::value(file, further.start, 12 * further.many);
     pieces::judge_places(
         offsets,
         typs[a] == 4,
@@ -115,6 +120,8 @@ fn judge_pieces(
         &outerstarts,
         &outerlens,
         12,
+        later,
+        further.many,
     )
 }
 
@@ -129,15 +136,27 @@ fn image_columns(
     counts: &[usize; 21],
     starts: &[usize; 23],
     lens: &[usize; 23],
+    further: Further,
 ) -> Image
-    requires { ⌜ Passed (now file) big at c (now typs) (now counts) (now starts) (now lens) ⌝ }
+    requires { ⌜ Passed (now file) big at c (now typs) (now counts) (now starts) (now lens) further ⌝ }
     ensures { λ r. ⌜ r ≡ imageBy (pictureStage (viewOf (now (file .entry)) big at c)) (viewOf (now (file .entry)) big at c) next ⌝ }
 {
-    let t = tags::judge_tags(file, big, at, c, typs, counts, starts, lens);
+    let t = tags::judge_tags(file, big, at, c, typs, counts, starts, lens, further);
     if t.verdict.number != 0 {
         return no_image(t.verdict);
     }
-    let s = judge_pieces(file, big, at, c, t.tiled, typs, counts, starts, lens);
+    let s = judge_pieces(
+        file,
+        big,
+        at,
+        c,
+        t.tiled,
+        typs,
+        counts,
+        starts,
+        lens,
+        further,
+    );
     if s.number != 0 {
         return no_image(s);
     }
@@ -157,6 +176,7 @@ fn image_columns(
         tiepoint: part_at(starts, lens, 15),
         matrix: part_at(starts, lens, 16),
         metadata: part_at(starts, lens, 20),
+        further,
     }
 }
 
@@ -197,7 +217,19 @@ fn image_laid(file: &[u8], big: bool, at: usize, c: usize) -> Image
             place: 0,
         });
     }
-    image_columns(file, big, at, c, s.next, &typs, &counts, &starts, &lens)
+    let further = s.further;
+    image_columns(
+        file,
+        big,
+        at,
+        c,
+        s.next,
+        &typs,
+        &counts,
+        &starts,
+        &lens,
+        further,
+    )
 }
 
 // Rules 4 to 14 and 27, of a file whose head names the place of its directory.

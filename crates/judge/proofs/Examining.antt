@@ -149,6 +149,7 @@ module _ (f : List ℕ) {i : Image} (is : i ≡ imageOf f) where
               doubles = i .doubles;
               characters = i .characters;
               metadata = i .metadata;
+              further = i .further;
             }
             ≡ examinedOf f
         unfolding examinedOf examinedIn imageIn judgedIn
@@ -164,6 +165,7 @@ module _ (f : List ℕ) {i : Image} (is : i ≡ imageOf f) where
                   doubles = i .doubles;
                   characters = i .characters;
                   metadata = i .metadata;
+                  further = i .further;
                 }
                 ≡ examinedOf f
             go true e =
@@ -177,6 +179,7 @@ module _ (f : List ℕ) {i : Image} (is : i ≡ imageOf f) where
                   doubles = here k .doubles;
                   characters = here k .characters;
                   metadata = here k .metadata;
+                  further = here k .further;
                 })
                 ∙ sym (answer-good f examinedIn notExamined (ap (λ (v : Verdict). v .number) verdict-is ∙ eqb-true _ _ e))
             go false e =

@@ -1,6 +1,6 @@
 -- A file whose image is accepted, and so an accepted file: the value of each tag of the table is a run that lies in the file; what the examination of an
 -- accepted file found is what the paper's view of it shows. Assumes nothing.
-use Prim.Native.Nat.{ℕ, _+_, _≤_, _<_}
+use Prim.Native.Nat.{ℕ, _+_, _-_, _≤_, _<_}
 use mathlib.Core.Path.{_≡_, refl, sym, ap, ap₂, _∙_, subst}
 use mathlib.Core.Bool.{Bool, true, false, cond, not}
 use mathlib.Core.Logic.{_⊎_, inl, inr}
@@ -10,6 +10,7 @@ use lib.ListN.{length, getD}
 use Rattle.paper.specs.Bytes.{run}
 use Rattle.paper.specs.Tests.{all}
 use Rattle.paper.specs.Outcome.{_▷_}
+use Rattle.paper.specs.Layout.{rule6}
 use Rattle.paper.specs.Tags.{Held, find, has, bytesOf}
 use Rattle.paper.specs.Judge.{view, viewAt, headRun, headOf, headIn, countIn, dirRun, entriesIn, fullOf, verdictOf}
 use Rattle.paper.specs.Judge.{headRules, offsetRules, countRules, entryRules, tableRules, pieceRules, pictureRules}
@@ -18,11 +19,14 @@ use Rattle.paper.specs.Calls.{judgedOf, answer}
 use Rattle.paper.proofs.First.{kept-first, first-append, chain-both}
 use Rattle.paper.proofs.Bounds.{rule4-gives, rule5-gives}
 use Rattle.paper.proofs.Called.{answer-good, judged-verdict}
+use Rattle.paper.specs.declared.Outcome.the-variants.{Kept as kept}
 use Rattle.paper.specs.declared.Entry.{Entry}
 use Rattle.paper.specs.declared.Judged.{Judged}
 use Rattle.paper.specs.declared.Verdict.{Verdict}
 use Rattle.layout.specs.Columns.{typColumn, countColumn, startColumn, lenColumn}
+use Rattle.layout.specs.Repeats.{textCount, furtherOf, laterTexts}
 use Rattle.layout.proofs.Opening.{size-gives}
+use Rattle.layout.proofs.Repeats.{FurtherHolds, further-holds, later-within}
 use Rattle.tags.specs.Slots.{tagAt}
 use Rattle.tags.specs.Tagging.{entriesAt, heldAt, viewOf, taggedBy, taggedOf, Ready}
 use Rattle.tags.proofs.Slots.{slot}
@@ -86,6 +90,20 @@ module _ (f : List ℕ) (zero : imageStage f .number ≡ 0) where
         lens-are = refl;
         seven = kept-first (entryRules (headIn f) (entriesIn f (headIn f))) refl (count-zero .1) 1;
       }
+
+  six-kept : rule6 Entries ≡ kept
+  unfolding entryStage entryRules entriesIn dirRun entriesAt all
+  six-kept = kept-first (entryRules (headIn f) (entriesIn f (headIn f))) refl (count-zero .1) 0
+
+  -- the further entries of 50909, and each of these
+  later-stands : FurtherHolds f (headIn f .big) (headIn f .at) (countIn f (headIn f)) (furtherOf (headIn f .at) (entriesIn f (headIn f)))
+  unfolding entriesIn dirRun entriesAt
+  later-stands = further-holds f (headIn f .big) (headIn f .at) (countIn f (headIn f)) (ready .whole) (ready .few) six-kept refl
+
+  later-inside : (d : Entry) (j : ℕ) → j < textCount (entriesIn f (headIn f)) - 1
+      → getD (laterTexts (entriesIn f (headIn f))) j d .start + getD (laterTexts (entriesIn f (headIn f))) j d .len ≤ length f
+  unfolding entriesIn dirRun entriesAt
+  later-inside = later-within f (headIn f .big) (headIn f .at) (countIn f (headIn f)) (ready .whole) (ready .few) six-kept (ready .low) (ready .seven)
 
   held-is : view f .held ≡ Helds
   unfolding view viewAt entriesIn dirRun heldAt entriesAt
@@ -157,6 +175,13 @@ module _ (f : List ℕ) (zero : verdictOf f .number ≡ 0) where
 
   pub present : (k : ℕ) → k < 21 → has (tagAt k) (view f .held) ≡ not (eqb (find (tagAt k) (view f .held) .entry .start) 0)
   present = image-present f image-zero
+
+  pub further-stands : FurtherHolds f (headIn f .big) (headIn f .at) (countIn f (headIn f)) (furtherOf (headIn f .at) (entriesIn f (headIn f)))
+  further-stands = later-stands f image-zero
+
+  pub further-inside : (d : Entry) (j : ℕ) → j < textCount (entriesIn f (headIn f)) - 1
+      → getD (laterTexts (entriesIn f (headIn f))) j d .start + getD (laterTexts (entriesIn f (headIn f))) j d .len ≤ length f
+  further-inside = later-inside f image-zero
 
 -- the judgement is part of the examination
 pub judged-is : (f : List ℕ) → examinedOf f .judged ≡ judgedOf f

@@ -1,12 +1,13 @@
 -- What one examination of a file finds: the judgement, and where the values stand that the other calls hand back. Assumes nothing.
 use Prim.Native.Nat.{ℕ}
 use mathlib.Core.Bool.{false}
-use mathlib.Core.List.{List}
+use mathlib.Core.List.{List, map}
 use Rattle.paper.specs.Tag
 use Rattle.paper.specs.Tags.{valueOf}
 use Rattle.paper.specs.Judge.{View}
 use Rattle.paper.specs.Calls.{answer, judgedIn, notJudged}
 use Rattle.paper.specs.declared.Verdict.{Verdict}
+use Rattle.layout.specs.Repeats.{noFurther, furtherOf}
 use Rattle.image.specs.Imaging.{tagPart, noPart}
 use Rattle.judge.specs.declared.Examined.{Examined}
 
@@ -21,6 +22,7 @@ examinedIn w =
       doubles = tagPart Tag.doubles (w .held);
       characters = tagPart Tag.characters (w .held);
       metadata = tagPart Tag.metadata (w .held);
+      further = furtherOf (w .head .at) (map (λ h. h .entry) (w .held));
     }
 
 abbrev pub notExamined : Verdict → Examined
@@ -34,6 +36,7 @@ notExamined v =
       doubles = noPart;
       characters = noPart;
       metadata = noPart;
+      further = noFurther;
     }
 
 unfoldable pub examinedOf : List ℕ → Examined

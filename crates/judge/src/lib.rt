@@ -2,6 +2,7 @@
 ghost use mathlib.Core.Path.{_≡_};
 ghost use Rattle.paper.specs.Calls.{judgedOf};
 ghost use Rattle.judge.specs.Examining.{notExamined, examinedOf};
+use layout::Further;
 use paper::Judged;
 use paper::Part;
 use paper::Verdict;
@@ -16,6 +17,7 @@ pub struct Examined {
     pub doubles: Part,
     pub characters: Part,
     pub metadata: Part,
+    pub further: Further,
 }
 
 // What is answered for a refused file.
@@ -32,6 +34,7 @@ fn refused(verdict: Verdict) -> Examined
         doubles: none,
         characters: none,
         metadata: none,
+        further: Further { start: 0, many: 0 },
     }
 }
 
@@ -61,6 +64,7 @@ pub fn examine(file: &[u8]) -> Examined
     if j.verdict.number != 0 {
         return refused(j.verdict);
     }
+    let further = i.further;
     Examined {
         judged: j,
         big: i.big,
@@ -70,6 +74,7 @@ pub fn examine(file: &[u8]) -> Examined
         doubles,
         characters,
         metadata,
+        further,
     }
 }
 

@@ -7,7 +7,7 @@ use mathlib.Core.List.{List, [], _∷_}
 use lib.Dec.{eqb, ltb}
 use lib.ListN.{getD, List·getD-map}
 use borrow.Author.Tests.{eqb-true, ne-eqb, lt-ltb, le-ltb}
-use Rattle.paper.specs.Outcome.{ascending, ascendingFrom, ordered, orderedFrom}
+use Rattle.paper.specs.Outcome.{ascending, ordered, orderedFrom}
 use Rattle.paper.specs.Tests.{all}
 use Rattle.paper.specs.Keys.{Known, known, knownKeys, kindIn, kindOf, otherKind}
 use Rattle.paper.specs.declared.Outcome.the-variants.{Kept as kept}

@@ -11,7 +11,7 @@ use lib.ListN.{length, set}
 use lib.Seq.{set-out}
 use borrow.Author.Tests.{lt-ltb, eqb-true, ne-eqb}
 use Rattle.paper.specs.Bytes.{build}
-use Rattle.paper.specs.Outcome.{ascending, firstBad, first, ordered}
+use Rattle.paper.specs.Outcome.{firstBad, first, ordered}
 use Rattle.paper.specs.Tests.{all}
 use Rattle.paper.specs.Key
 use Rattle.paper.specs.Keys.{Runs, shortKind, knownKeys, kindIn, kindOf, short, keyAt, room, rightPlace, misplaced, rule16, rule17, keyValue}

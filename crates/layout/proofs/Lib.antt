@@ -4,3 +4,5 @@ pub mod Opening
 pub mod Finding
 pub mod Turns
 pub mod Values
+pub mod Repeats
+pub mod Ordering

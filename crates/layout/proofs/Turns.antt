@@ -14,7 +14,7 @@ use Rattle.paper.specs.Outcome.{ascending, firstBad, first, orElse, verdict, or
 use Rattle.paper.specs.declared.Outcome.{Outcome}
 use Rattle.paper.specs.declared.Verdict.{Verdict}
 use Rattle.paper.specs.declared.Entry.{Entry}
-use Rattle.paper.specs.Layout.{entryAt, entries, badValue, nextOffset, rule6, rule7}
+use Rattle.paper.specs.Layout.{entryAt, entries, badValue, nextOffset, rule7}
 use Rattle.paper.specs.Tags.{table}
 use Rattle.paper.specs.Tests.{indexOf}
 use Rattle.paper.specs.Judge.{entryRules}
@@ -22,7 +22,8 @@ use Rattle.paper.proofs.Loops.{build-end}
 use Rattle.paper.proofs.Store.{set-index}
 use Rattle.outcomes.specs.Told.{toldBy}
 use Rattle.outcomes.proofs.Back.{step-back, front, near, told-or, told-rise}
-use Rattle.layout.specs.Opening.{scannedOf}
+use Rattle.layout.specs.Opening.{scannedOf, OrderedAs}
+use Rattle.layout.specs.declared.Ordered.{Ordered}
 use Rattle.layout.specs.Finding.{inCell}
 use Rattle.layout.specs.Columns.{tags, fieldOf, column, typColumn, countColumn, startColumn, lenColumn}
 use Rattle.layout.proofs.Finding.{tags-distinct, cell-none}
@@ -82,17 +83,17 @@ module _ (e : Entry) (es : List Entry) where
 -- ---- rules 6 and 7 of the entries es, in a file of n bytes, and the first tag
 
 pub record Seen (n : ℕ) (es : List Entry) (six seven next : ℕ) : Type 0 where
-  pub rises : toldBy six ≡ rule6 es
+  pub rises : toldBy six ≡ ascending (map (λ e. e .tag) es)
   pub fits : toldBy seven ≡ rule7 n es
   pub after : next ≡ front (map (λ e. e .tag) es)
 
 none-seen : (n : ℕ) → Seen n [] 65536 65536 65536
-unfolding toldBy rule6 ordered rule7 firstBad front
+unfolding toldBy ordered rule7 firstBad front
 none-seen n = record { rises = refl; fits = refl; after = refl }
 
 seen-front : (n : ℕ) (es : List Entry) (six seven next : ℕ) (e : Entry) → Seen n es six seven next → e .tag < 65536
     → Seen n (e ∷ es) (cond (leb next (e .tag)) next six) (cond (badValue n e) (e .tag) seven) (e .tag)
-unfolding rule6 rule7 firstBad front
+unfolding rule7 firstBad front
 seen-front n es six seven next e seen low =
     record {
       rises = told-rise (e .tag) next six (map (λ x. x .tag) es) low (seen .rises) (seen .after);
@@ -160,10 +161,16 @@ module _ {n : ℕ} {big : Bool} {at c : ℕ} {dir : List ℕ} {i six seven next 
   unfolding entries
   all-entries = let z : i ≡ 0 = omega arith in rw (z, sub-zero)
 
-  pub pass-end : {o₆ o₇ : Outcome} {v w : Verdict} {offset : ℕ} → o₇ ≡ toldBy seven → v ≡ orElse 7 o₇ (verdict 0 0) → o₆ ≡ toldBy six → w ≡ orElse 6 o₆ v → offset ≡ num big 4 dir (2 + 12 * c)
-      → (record { verdict = w; next = offset } ≡ scannedOf (record { size = n; big = big; at = at }) c dir) × ((typs ≡ typColumn (entries big at c dir))
+  -- what is known of rule 6
+  pub pass-known : toldBy six ≡ ascending (map (λ e. e .tag) (entries big at c dir))
+  pass-known = rw (← all-entries) (pass .seen .rises)
+
+  pub pass-end : {o : Ordered} {o₆ o₇ : Outcome} {v w : Verdict} {offset : ℕ} → OrderedAs (entries big at c dir) at o → o₇ ≡ toldBy seven → v ≡ orElse 7 o₇ (verdict 0 0)
+      → o₆ ≡ toldBy (o .six) → w ≡ orElse 6 o₆ v → offset ≡ num big 4 dir (2 + 12 * c)
+      → (record { verdict = w; next = offset; further = o .further } ≡ scannedOf (record { size = n; big = big; at = at }) c dir) × ((typs ≡ typColumn (entries big at c dir))
       × ((counts ≡ countColumn (entries big at c dir)) × ((starts ≡ startColumn at (entries big at c dir)) × (lens ≡ lenColumn c (entries big at c dir)))))
   unfolding scannedOf entryRules first nextOffset
-  pass-end a p b q r =
+  pass-end known a p b q r =
       let k : Columns at c (entries big at c dir) typs counts starts lens = rw (← all-entries) (pass .columns) in
-      (rw (q, b, p, a, r, ← all-entries, pass .seen .rises, pass .seen .fits), (k .typs-are, (k .counts-are, (k .starts-are, k .lens-are))))
+      let seven-is : toldBy seven ≡ rule7 n (entries big at c dir) = rw (← all-entries) (pass .seen .fits) in
+      (rw (q, b, p, a, r, known .six, known .further, seven-is), (k .typs-are, (k .counts-are, (k .starts-are, k .lens-are))))

@@ -54,7 +54,7 @@ module _ (big : Bool) (at : ℕ) (dir : List ℕ) (p : ℕ) where
 -- ---- the value of an entry lies in the file
 
 module _ (n at c : ℕ) (big : Bool) (dir : List ℕ) (low : 8 ≤ at) (fits : at + dirLen c ≤ n) (seven : rule7 n (entries big at c dir) ≡ kept) where
-  entry-within : (i : ℕ) → i < c → entryAt big at dir i .start + entryAt big at dir i .len ≤ n
+  pub entry-within : (i : ℕ) → i < c → entryAt big at dir i .start + entryAt big at dir i .len ≤ n
   entry-within i l = go (typed (entryAt big at dir i)) refl
     where
       go : (b : Bool) → typed (entryAt big at dir i) ≡ b → entryAt big at dir i .start + entryAt big at dir i .len ≤ n

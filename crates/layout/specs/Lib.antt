@@ -2,3 +2,4 @@
 pub mod Opening
 pub mod Finding
 pub mod Columns
+pub mod Repeats

@@ -1,19 +1,27 @@
 -- What rules 1 to 3 answer for a file, rules 4 and 5 for a directory at an offset, and rules 6 and 7 for a directory: the first broken rule
 -- with its place, or what is then known. Assumes nothing.
-use Prim.Native.Nat.{ℕ}
+use Prim.Native.Nat.{ℕ, _≤_}
+use mathlib.Core.Path.{_≡_}
 use mathlib.Core.Bool.{cond}
 use mathlib.Core.List.{List, [], _∷_}
 use lib.Dec.{eqb}
 use lib.ListN.{length}
 use Rattle.paper.specs.Outcome.{_▸_, first, _▷_}
-use Rattle.paper.specs.Layout.{rule2, rule3, entries, nextOffset}
+use Rattle.paper.specs.Layout.{rule2, rule3, entries, nextOffset, rule6}
 use Rattle.paper.specs.Judge.{Head, headOf, headIn, countIn, entryRules, headStage, offsetStage, countStage}
+use Rattle.paper.specs.declared.Outcome.{Outcome}
+use Rattle.paper.specs.declared.Outcome.the-variants.{Kept as kept, Broken as broken}
+use Rattle.paper.specs.declared.Entry.{Entry}
 use Rattle.paper.specs.declared.Verdict.{Verdict}
 use Rattle.layout.specs.declared.Headed.{Headed}
 use Rattle.layout.specs.declared.Headed.the-variants.{Bad, Good}
 use Rattle.layout.specs.declared.Opened.{Opened}
 use Rattle.layout.specs.declared.Opened.the-variants.{Refused, Laid}
+use Rattle.outcomes.specs.Told.{toldBy}
 use Rattle.layout.specs.declared.Scanned.{Scanned}
+use Rattle.layout.specs.declared.Ordered.{Ordered}
+use Rattle.layout.specs.declared.Further.{Further}
+use Rattle.layout.specs.Repeats.{noFurther, furtherOf}
 
 -- ---- the head
 
@@ -43,7 +51,19 @@ countedOf f h = opened (countStage f h) (countIn f h)
 unfoldable pub openedOf : List ℕ → Head → Opened
 openedOf f h = opened (offsetStage h ▷ countStage f h) (countIn f h)
 
--- rules 6 and 7 and the next offset, of a directory of c entries whose bytes are dir
+-- where the further entries of 50909 stand, told where rule 6 is kept
+abbrev pub furtherBy : Outcome → ℕ → List Entry → Further
+furtherBy kept at es = furtherOf at es
+furtherBy (broken p) at es = noFurther
+
+-- rules 6 and 7, the next offset and the further entries of 50909, of a directory of c entries whose bytes are dir
 unfoldable pub scannedOf : Head → ℕ → List ℕ → Scanned
 scannedOf h c dir =
-    record { verdict = first (entryRules h (entries (h .big) (h .at) c dir)); next = nextOffset (h .big) c dir }
+    let es : List Entry = entries (h .big) (h .at) c dir in
+    record { verdict = first (entryRules h es); next = nextOffset (h .big) c dir; further = furtherBy (rule6 es) (h .at) es }
+
+-- what a pass says of rule 6 and of the further entries of 50909
+pub record OrderedAs (es : List Entry) (at : ℕ) (r : Ordered) : Type 0 where
+  pub low : r .six ≤ 65536
+  pub six : toldBy (r .six) ≡ rule6 es
+  pub further : r .further ≡ furtherBy (rule6 es) at es

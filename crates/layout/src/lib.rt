@@ -1,16 +1,18 @@
-// The layout of a file: its head, and of a directory its offset, its count and its entries, rules 1 to 7; where the tags of the table stand; an
-// entry's value.
+// The layout of a file: its head, and of a directory its offset, its count and its entries, rules 1 to 7; where the tags of the table stand, and tag
+// 50909 where it stands more than once; an entry's value.
 ghost use mathlib.Core.Path.{_≡_};
-ghost use mathlib.Core.Bool.{true, _||_};
-ghost use mathlib.Core.List.{[]};
+ghost use mathlib.Core.Bool.{true, not, _||_};
+ghost use mathlib.Core.List.{[], map};
 ghost use Prim.Native.Nat.{_+_, _*_, _≤_, _<_};
 ghost use lib.Dec.{ltb};
 ghost use lib.ListN.{length};
 ghost use Rattle.paper.specs.Bytes.{run};
 ghost use Rattle.paper.specs.declared.Outcome.the-variants.{Kept as kept};
-ghost use Rattle.paper.specs.Layout.{odd, isBig, dirLen, rule2, sizeOf, entryOf, entries, badValue};
+ghost use Rattle.paper.specs.Outcome.{ascending};
+ghost use Rattle.paper.specs.Layout.{odd, isBig, dirLen, rule2, sizeOf, entryOf, entries, behind, badValue};
 ghost use Rattle.paper.specs.Tests.{indexOf};
-ghost use Rattle.layout.specs.Opening.{markedOf, headedOf, countedOf, openedOf, scannedOf};
+ghost use Rattle.outcomes.specs.Told.{toldBy};
+ghost use Rattle.layout.specs.Opening.{markedOf, headedOf, countedOf, openedOf, scannedOf, OrderedAs};
 ghost use Rattle.layout.specs.Finding.{cellOf, cellTags, cellSlots, inCell};
 ghost use Rattle.layout.specs.Columns.{tags, typColumn, countColumn, startColumn, lenColumn};
 use paper::Entry;
@@ -28,11 +30,28 @@ pub enum Opened {
     Laid(usize),
 }
 
-// What rules 6 and 7 answer for a directory, and its next offset.
+// Where the entries of tag 50909 stand behind the first of them: where the second starts in the file, and how many there are from it on. Both are 0
+// where there is at most one.
+pub struct Further {
+    pub start: usize,
+    pub many: usize,
+}
+
+// What rules 6 and 7 answer for a directory, its next offset, and where rule 6 is kept the further entries of 50909.
 pub struct Scanned {
     pub verdict: Verdict,
     pub next: u32,
+    pub further: Further,
 }
+
+// What rule 6 says, as a number, and where it is kept the further entries of 50909.
+pub struct Ordered {
+    pub six: usize,
+    pub further: Further,
+}
+
+// The tag of a metadata text, the one that may stand more than once.
+const METADATA: usize = 50909;
 
 // The size of an element of a type; 0 for a type other than 1 to 12.
 pub fn size_of(typ: usize) -> usize
@@ -298,6 +317,69 @@ fn slot_of(slots: &[u8; 32], tag: usize) -> usize
     wide_slot(slots[cell])
 }
 
+// Whether a tag may not stand in front of the next one.
+fn is_out_of_order(tag: usize, next: usize) -> bool
+    ensures { λ r. ⌜ r ≡ not (behind tag next) ⌝ }
+{
+    if tag < next {
+        return false;
+    }
+    if tag == METADATA {
+        return next != METADATA;
+    }
+    true
+}
+
+// Rule 6 and the further entries of 50909, in one pass from the last entry to the first. Only a file in which a 50909 is not above the tag before it
+// comes here.
+fn order_again(dir: &[u8], big: bool, at: usize, c: usize) -> Ordered
+    requires { ⌜ (dirLen c ≤ length (now dir)) × (c ≤ 1024) × (at < 4294967296) ⌝ }
+    ensures { λ r. ⌜ OrderedAs (entries big at c (now (dir .entry))) at r ⌝ }
+{
+    let mut six = outcomes::NONE;
+    let mut next = outcomes::NONE;
+    let mut first = 0;
+    let mut many = 0;
+    let mut i = c;
+    while 0 < i {
+        i -= 1;
+        let tag = order::short(dir, big, 2 + 12 * i);
+        six = outcomes::broken_or(is_out_of_order(tag, next), next, six);
+        next = tag;
+        if tag == METADATA {
+            first = i;
+            many += 1;
+        }
+    }
+    if (six != outcomes::NONE) | (many < 2) {
+        return Ordered {
+            six,
+            further: Further { start: 0, many: 0 },
+        };
+    }
+    Ordered {
+        six,
+        further: Further {
+            start: at + (2 + 12 * (first + 1)),
+            many: many - 1,
+        },
+    }
+}
+
+// Rule 6, where it is known of the tags whether they ascend: only a first fault at 50909 need be none.
+fn judge_order(dir: &[u8], big: bool, at: usize, c: usize, six: usize) -> Ordered
+    requires { ⌜ (dirLen c ≤ length (now dir)) × (c ≤ 1024) × (at < 4294967296) × (six ≤ 65536) × (toldBy six ≡ ascending (map (λ e. e .tag) (entries big at c (now dir)))) ⌝ }
+    ensures { λ r. ⌜ OrderedAs (entries big at c (now (dir .entry))) at r ⌝ }
+{
+    if six != METADATA {
+        return Ordered {
+            six,
+            further: Further { start: 0, many: 0 },
+        };
+    }
+    order_again(dir, big, at, c)
+}
+
 // Rules 6 and 7, the next offset, and a column of each field of the table's tags, in one pass from the last entry to the first: at each turn all is
 // known of the entries from i on. The columns are lent as those of no entry; the starts and lengths end with those of the head and of the directory.
 pub fn scan(
@@ -327,7 +409,7 @@ pub fn scan(
     while 0 < i {
         i -= 1;
         let e = entry_at(dir, big, at, 2 + 12 * i);
-        // Rule 6: a tag is below the next one.
+        // Whether the tags ascend: a tag is below the next one.
         six = outcomes::broken_or(next <= e.tag, next, six);
         next = e.tag;
         // Rule 7: the count is not 0, and the value lies in the file.
@@ -340,14 +422,17 @@ pub fn scan(
             lens[k] = e.len;
         }
     }
+    let o = judge_order(dir, big, at, c, six);
+    let further = o.further;
     let none = Verdict {
         number: 0,
         place: 0,
     };
     let last = outcomes::or_else(7, outcomes::told(seven), none);
     Scanned {
-        verdict: outcomes::or_else(6, outcomes::told(six), last),
+        verdict: outcomes::or_else(6, outcomes::told(o.six), last),
         next: order::long(dir, big, 2 + 12 * c) as u32,
+        further,
     }
 }
 

@@ -1,20 +1,20 @@
 -- What a kept rule gives to code: that what it reads lies in the file. Assumes nothing.
 use Prim.Native.Nat.{ℕ, zero, suc, _+_, _*_, _≤_, _<_, zero-le, suc-le-suc}
 use mathlib.Core.Path.{_≡_, refl, sym, ap, ap₂, _∙_, subst}
-use mathlib.Core.Bool.{Bool, true, false, not, _&&_, _||_, true≢false, and-false}
+use mathlib.Core.Bool.{Bool, true, false, not, _&&_, _||_, true≢false, false≢true, and-false}
 use mathlib.Core.List.{List, [], _∷_}
 use native.Mathlib.Nat.{zero-add}
 use native.Mathlib.Omega.{arith}
 use lib.Dec.{eqb, leb, ltb}
 use lib.ListN.{length, getD, List·getD-eq-default}
-use borrow.Author.Tests.{eqb-false, ltb-false, leb-true, leb-false, lt-ltb, le-leb, lt-leb, not-false}
+use borrow.Author.Tests.{eqb-false, ltb-false, leb-true, leb-false, lt-ltb, le-leb, lt-leb, not-false, not-true}
 use Rattle.paper.specs.Bytes.{num, build}
 use Rattle.paper.specs.Outcome.{kept}
 use Rattle.paper.specs.Layout.{odd, dirLen, sizes, sizeOf, typed, badValue, entryAt, entryOf, startOf, entries, rule4, rule5, rule7}
-use Rattle.paper.specs.Tests.{some}
-use Rattle.paper.specs.Tags.{Line, line, no, any, has, fitsLine, misfits, rule10, Held, find, absent, listed, inTable}
+use Rattle.paper.specs.Tests.{all}
+use Rattle.paper.specs.Tags.{Line, line, table, no, any, has, fitsLine, misfits, rule10, Held, find, absent, listed, inTable}
 use Rattle.paper.proofs.Loops.{findEntry}
-use Rattle.paper.proofs.Laws.{breaks-kept, or-false, and-eq, kept-all, length-build, getD-build}
+use Rattle.paper.proofs.Laws.{breaks-kept, or-false, and-eq, kept-all, all-at, none-at, length-build, getD-build}
 use Rattle.paper.specs.declared.Entry.{Entry}
 
 pub record DirectoryAt (n at : ℕ) : Type 0 where
@@ -146,10 +146,45 @@ size-past k h = List·getD-eq-default sizes 0 h
 abbrev pub noLine : Line
 noLine = line 0 no 0 0 0 0 any
 
-pub fits-line : (tb : List Line) (hs : List Held) → rule10 tb hs ≡ kept → (i : ℕ) → i < length tb → has (getD tb i noLine .tag) hs ≡ true
-    → fitsLine (getD tb i noLine) (find (getD tb i noLine .tag) hs .entry) ≡ true
+-- no line has tag 0, which stands for an absent entry
+unfoldable pub named : Line → Bool
+named l = not (eqb 0 (l .tag))
+
+pub table-named : all named table ≡ true
+unfolding all named table
+table-named = refl
+
+-- every entry of the tag fits its line
+each-fits : (tb : List Line) (hs : List Held) → rule10 tb hs ≡ kept → (i : ℕ) → i < length tb → (j : ℕ) → j < length hs
+    → eqb (getD hs j absent .entry .tag) (getD tb i noLine .tag) ≡ true → fitsLine (getD tb i noLine) (getD hs j absent .entry) ≡ true
 unfolding rule10 misfits
-fits-line tb hs h i l p =
-    let m : has (getD tb i noLine .tag) hs && not (fitsLine (getD tb i noLine) (find (getD tb i noLine .tag) hs .entry)) ≡ false =
-    kept-all (misfits hs) _ tb noLine h i l in
-    not-false _ (rw p at m)
+each-fits tb hs h i l j k e =
+    let m : eqb (getD hs j absent .entry .tag) (getD tb i noLine .tag) && not (fitsLine (getD tb i noLine) (getD hs j absent .entry)) ≡ false =
+    none-at _ hs absent (kept-all (misfits hs) _ tb noLine h i l) j k in
+    not-false _ (rw e at m)
+
+-- where the one that is found stands
+record FoundAt (t : ℕ) (hs : List Held) : Type 0 where
+  at : ℕ
+  is : at < length hs
+  same : getD hs at absent ≡ find t hs
+
+found-at : (t : ℕ) (hs : List Held) → not (eqb 0 t) ≡ true → has t hs ≡ true → FoundAt t hs
+unfolding has find
+found-at t [] z p = absurd (false≢true (sym (not-true _ z) ∙ p))
+found-at t (h ∷ hs) z p = go (eqb (h .entry .tag) t) refl (found-at t hs z)
+  where
+    go : (b : Bool) → eqb (h .entry .tag) t ≡ b → (has t hs ≡ true → FoundAt t hs) → FoundAt t (h ∷ hs)
+    go true e r = record { at = 0; is = suc-le-suc zero-le; same = rw e }
+    go false e r =
+        let x : FoundAt t hs = r (rw e at p) in
+        record { at = suc (x .at); is = suc-le-suc (x .is); same = rw e (x .same) }
+
+pub fits-line : (tb : List Line) → all named tb ≡ true → (hs : List Held) → rule10 tb hs ≡ kept → (i : ℕ) → i < length tb
+    → has (getD tb i noLine .tag) hs ≡ true → fitsLine (getD tb i noLine) (find (getD tb i noLine .tag) hs .entry) ≡ true
+unfolding named has
+fits-line tb n hs h i l p =
+    let t : ℕ = getD tb i noLine .tag in
+    let x : FoundAt t hs = found-at t hs (all-at named tb noLine n i l) p in
+    subst (λ (y : Held). fitsLine (getD tb i noLine) (y .entry) ≡ true) (x .same)
+    (each-fits tb hs h i l (x .at) (x .is) (ap (λ (y : Held). eqb (y .entry .tag) t) (x .same) ∙ p))

@@ -1,17 +1,18 @@
 -- The demands, as theorems about the definitions of `specs/`. A file is a list of bytes. This page states; the proofs are in the files that it
 -- names. The words are in specs/: `Asked` (AllKept, FirstBroken, Agree, SameAnswers, Repainted, SameKeys), `Lent` for demand 1, `Places` for the first
--- place, `Shown` for rows, georeference, corners and pieces, `Laid` for the key block, `Listed` for the reading list. Assumes nothing.
+-- place, `Shown` for rows, georeference, corners, pieces and metadata texts, `Laid` for the key block, `Listed` for the reading list. Assumes nothing.
 use Prim.Native.Nat.{ℕ, _≤_, _<_}
 use mathlib.Core.Path.{_≡_, refl, sym, _∙_}
 use mathlib.Core.Bool.{true, false, _&&_}
 use mathlib.Core.List.{List, [], _∷_, map}
+use lib.Dec.{eqb}
 use lib.ListN.{length, getD}
 use Rattle.paper.specs.Outcome.{Rule, verdict}
 use Rattle.paper.specs.Tests.{keep}
 use Rattle.paper.specs.Tags.{stripTags, tileTags}
 use Rattle.paper.specs.Keys.{Runs, keyCount}
 use Rattle.paper.specs.Judge.{headIn, entriesIn, view, runsOf, piecesOf, fullOf, verdictOf, rules, readingList}
-use Rattle.paper.specs.Calls.{judgedOf, readRuns}
+use Rattle.paper.specs.Calls.{answer, judgedOf, textOf, readRuns}
 use Rattle.paper.specs.Block.{blockOf, blockLeft}
 use Rattle.paper.specs.Asked.{AllKept, FirstBroken, Agree, onList, SameAnswers, noPiece, Within, InPiece, Repainted, Bytes, SameKeys, lentRuns}
 use Rattle.paper.specs.Listed.{listBy}
@@ -32,14 +33,16 @@ use Rattle.paper.proofs.Citation.{citation-same}
 use Rattle.paper.proofs.Metadata.{metadata-same}
 use Rattle.paper.proofs.Picture.{pieces-within, pieces-unread, repainted-agree}
 use Rattle.paper.proofs.Kept.{carries, tableBefore, tags-before, needed-before, verdictBefore, verdict-kept}
+use Rattle.paper.proofs.Once.{repeats, verdictOnce, verdict-once, verdict-else, no-second, textBefore, text-once}
 use Rattle.paper.proofs.Trip.{read-accepted, read-same}
 use Rattle.paper.specs.declared.Block.{Block}
 
 -- DEMAND 1. Every call takes any bytes, whatever is lent or asked: the definitions are total, and no contract of a public call asks anything. A call on
 -- a file gives the number and the place of the file's first broken rule, one of 1 to 22 and 27; where none is broken, 0 with place 0 or a number
--- of its own: 23 for rows, 26 for a citation, 24 before 25 for the key block (`numbers`). 23 and 25 name the room that is needed, 26 the key asked
--- (`named`). A refusal has nothing beside its verdict: other numbers are 0, doubles +0, parts empty, and every lent row and byte is as it was
--- (`refusals`). An accepting call writes K rows, or the block's bytes, in front; what is behind keeps its content (`writes`).
+-- of its own: 23 for rows, 26 for a citation, 29 for a metadata text, 24 before 25 for the key block (`numbers`). 23 and 25 name the room that is
+-- needed, 26 the key asked, 29 the number of the text asked (`named`). A refusal has nothing beside its verdict: other numbers are 0, doubles +0, parts
+-- empty, and every lent row and byte is as it was (`refusals`). An accepting call writes K rows, or the block's bytes, in front; what is behind keeps
+-- its content (`writes`).
 pub lent : (f : List ℕ) → Guarded f
 lent f = guarded f
 
@@ -78,7 +81,8 @@ module _ (f : List ℕ) where
 
 -- What an accepted file shows is what the document defines, over the bytes as they stand in the file. `keys`: K and the entries. `rows`: key, kind, and
 -- the part of the file that holds the key's value; later rows keep their content. `ground`: the georeference from tiepoint and scale or from the
--- matrix, the two corners written out, all finite. `pieces`: as many as the size asks for, one or more, and where each lies.
+-- matrix, the two corners written out, all finite. `pieces`: as many as the size asks for, one or more, and where each lies. `texts`: number k, counted
+-- from 0, is the value of entry k of tag 50909; with no such tag number 0 is the outside text; any other number is refused by 29.
 pub shown : (f : List ℕ) → verdictOf f .number ≡ 0 → Shows f
 shown f accepts = shows f accepts
 
@@ -106,7 +110,8 @@ pub block-refused : (f : List ℕ) (m : ℕ) → verdictOf f .number ≡ 0 → B
 block-refused = block-refusals
 
 -- DEMAND 3. Two files of equal length that agree on every byte of the first file's reading list get the same answers from every call, whatever is
--- lent or asked: verdict, place, K, georeference, corners, rows, citation (place and bytes), metadata text, key block and its lengths.
+-- lent or asked: verdict, place, K, georeference, corners, rows, citation (place and bytes), metadata text (place and bytes), key block and its lengths.
+-- What is lent and asked is equal for both files: the outside text, the key of a citation, the number of a metadata text.
 pub unseen : (f g : List ℕ) → length f ≡ length g → Agree f g (readingList f) → SameAnswers f g
 unseen f g n h =
     record {
@@ -147,8 +152,8 @@ module _ (f : List ℕ) (accepts : verdictOf f .number ≡ 0) where
 
 -- STRIPS STAY. C-11 changed nothing for files of strips: one with some strip tag (273, 278, 279) and no tile tag (322 to 325) has the verdict and the place
 -- of `verdictBefore`, the judgement without C-11, which is written out in `Kept`. That has no rule 27, and its rules 9 to 14 go by a table without
--- the tiles' lines and read 273, 278 and 279 alone; every other rule it shares with the verdict. So this fixes what C-11 did and no more: where a
--- later request moves rule 6, 8 or 15, `verdictBefore` moves with it.
+-- the tiles' lines and read 273, 278 and 279 alone; every other rule it shares with the verdict, and rules 6 and 10 are as C-12 leaves them. So this
+-- fixes what C-11 did and no more: where a request moves rule 6, 8 or 15, `verdictBefore` moves with it.
 pub strips-kept : (f : List ℕ) → carries stripTags (entriesIn f (headIn f)) ≡ true → carries tileTags (entriesIn f (headIn f)) ≡ false
     → verdictOf f ≡ verdictBefore f
 strips-kept f some none = verdict-kept f none some
@@ -162,6 +167,26 @@ pub strips-needed : map (λ l. l .tag) (keep (λ l. l .needed true && l .needed 
     ≡ 256 ∷ 257 ∷ 258 ∷ 259 ∷ 262 ∷ 273 ∷ 277 ∷ 278 ∷ 279 ∷ 34735 ∷ []
 strips-needed = needed-before
 
+-- ONE TAG STAYS. C-12 changed nothing for files in which no 50909 stands directly behind another: they have the verdict and the place of `verdictOnce`,
+-- the judgement without C-12, which is written out in `Once`. There each tag is greater than the one before (rule 6), and of each tag the first entry
+-- alone is tested by rule 10. Every other rule it shares with the verdict, so that it has C-11's tiles.
+pub once-kept : (f : List ℕ) → repeats (entriesIn f (headIn f)) ≡ false → verdictOf f ≡ verdictOnce f
+once-kept = verdict-once
+
+-- And whatever its tags are: only a file that was refused by 6 with place 50909 may have another verdict now.
+pub once-else : (f : List ℕ) → (verdictOnce f ≡ verdict 6 50909 → ⊥) → verdictOf f ≡ verdictOnce f
+once-else = verdict-else
+
+-- Of any tag but 50909 an accepted file has one entry at most.
+pub others-once : (f : List ℕ) → verdictOf f .number ≡ 0 → (t : ℕ) → (t ≡ 50909 → ⊥) → length (keep (λ e. eqb (e .tag) t) (entriesIn f (headIn f))) ≤ 1
+others-once = no-second
+
+-- Number 0 of the metadata texts is what the call without a number gave, in every file, also where the tag is repeated: by `textBefore` the value of the
+-- tag's first entry, and with no such tag the outside text; a refused file gives its verdict alone.
+pub text-kept : (f : List ℕ) (m : ℕ) → textOf f 0 m ≡ answer f (textBefore m) (λ v. record { verdict = v; from = 0; start = 0; len = 0 })
+text-kept = text-once
+
 -- The marked examples are in `Marked` (`marked`, one table), with the whole reading list of a file of each stage (`allowed`); those of tiles are in
--- `Tiled`; accepted files of either byte order with their place on the ground in `Placed`; every call on one file in either order, byte for byte, in
--- `FileC`; files with two faults in `Faults`; both sides of the documents' numbers in `Boundaries`, `TagBoundaries` and `KeyBoundaries`; the 45 kinds in `Tables`.
+-- `Tiled`, those with tag 50909 more than once in `Repeated`; accepted files of either byte order with their place on the ground in `Placed`; every call
+-- on one file in either order, byte for byte, in `FileC`; files with two faults in `Faults`; both sides of the documents' numbers in `Boundaries`,
+-- `TagBoundaries` and `KeyBoundaries`; the 45 kinds in `Tables`.

@@ -120,8 +120,8 @@ pub record Answers : Type 0 where
   pub rows : List Row
   pub cited : List Cited
   pub citations : List (List ℕ)
-  pub texts : Text
-  pub metadata : List ℕ
+  pub texts : List Text
+  pub metadata : List (List ℕ)
   pub measured : List Block
   pub block : List ℕ
   pub short : List ℕ
@@ -134,15 +134,15 @@ answered rows bytes f =
       rows = rowsLeft f (replicate rows (row 7 7 7 7));
       cited = map (citedOf f) (1026 ∷ 2049 ∷ 3073 ∷ 5002 ∷ 1024 ∷ []);
       citations = map (citation f) (1026 ∷ 2049 ∷ 3073 ∷ []);
-      texts = textOf f 3;
-      metadata = metadataText f (1 ∷ 2 ∷ 3 ∷ []);
+      texts = map (λ k. textOf f k 3) (0 ∷ 1 ∷ []);
+      metadata = map (λ k. metadataText f k (1 ∷ 2 ∷ 3 ∷ [])) (0 ∷ 1 ∷ []);
       measured = map (blockOf f) (0 ∷ 134 ∷ 135 ∷ []);
       block = blockLeft f (replicate bytes 5);
       short = blockLeft f (replicate 134 5);
     }
 
 -- What C gives, with some rows and bytes behind those that are written. There are 11 keys: 10 rows are too few. A citation is one character short of the
--- count; 26 for an ASCII key that is absent, and for a key of kind 3 and a SHORT that are present. The metadata text stands in the file. The block has
+-- count; 26 for an ASCII key that is absent, and for a key of kind 3 and a SHORT that are present. The one metadata text stands in the file, and 29 for a second. The block has
 -- 135 bytes: one fewer lent is 25, and the lent bytes stay.
 unfoldable pub answersC : List Row → List ℕ → Answers
 unfolding counts cites text lengths rowsC blockC
@@ -152,8 +152,8 @@ answersC rows bytes =
       rows = rowsC ++ rows;
       cited = cites 0 0 388 2 ∷ cites 0 0 384 3 ∷ cites 26 3073 0 0 ∷ cites 26 5002 0 0 ∷ cites 26 1024 0 0 ∷ [];
       citations = (97 ∷ 98 ∷ []) ∷ (120 ∷ 121 ∷ 122 ∷ []) ∷ [] ∷ [];
-      texts = text 0 0 0 392 5;
-      metadata = 60 ∷ 109 ∷ 100 ∷ 47 ∷ 62 ∷ [];
+      texts = text 0 0 0 392 5 ∷ text 29 1 0 0 0 ∷ [];
+      metadata = (60 ∷ 109 ∷ 100 ∷ 47 ∷ 62 ∷ []) ∷ [] ∷ [];
       measured = lengths 25 135 0 0 0 ∷ lengths 25 135 0 0 0 ∷ lengths 0 0 102 24 9 ∷ [];
       block = blockC ++ bytes;
       short = replicate 134 5;
@@ -200,15 +200,15 @@ far-block = spelled-same sharing (λ f. blockOf f 4)
 -- ---- other files
 
 -- Of A, with 3 keys at location 0 alone. Two rows lent are too few and keep their content, and so do 4 bytes; into more the block is A's own key directory.
--- There is no citation, and no metadata tag: the whole outside text.
+-- There is no citation, and no metadata tag: number 0 is the whole outside text.
 pub answers-A : answered 2 4 fileA
     ≡ record {
       counted = counts 23 3 0 ∷ counts 0 0 3 ∷ counts 0 0 3 ∷ [];
       rows = row 7 7 7 7 ∷ row 7 7 7 7 ∷ [];
       cited = map (λ k. cites 26 k 0 0) (1026 ∷ 2049 ∷ 3073 ∷ 5002 ∷ 1024 ∷ []);
       citations = [] ∷ [] ∷ [] ∷ [];
-      texts = text 0 0 1 0 3;
-      metadata = 1 ∷ 2 ∷ 3 ∷ [];
+      texts = text 0 0 1 0 3 ∷ text 29 1 0 0 0 ∷ [];
+      metadata = (1 ∷ 2 ∷ 3 ∷ []) ∷ [] ∷ [];
       measured = lengths 25 32 0 0 0 ∷ lengths 0 0 32 0 0 ∷ lengths 0 0 32 0 0 ∷ [];
       block = 5 ∷ 5 ∷ 5 ∷ 5 ∷ [];
       short = keys ++ replicate 102 5;
@@ -216,7 +216,7 @@ pub answers-A : answered 2 4 fileA
 unfolding fileA answered counts cites text lengths keys row spelled computed
 answers-A = spelled-same fileA (answered 2 4)
 
--- of a file that the rules refuse: its verdict from every call, before 23, 25 and 26; no K, no text, no lengths, and lent memory as it was
+-- of a file that the rules refuse: its verdict from every call, before 23, 25, 26 and 29; no K, no text, no lengths, and lent memory as it was
 unfoldable pub nothing : ℕ → ℕ → Answers
 unfolding counts cites text lengths row
 nothing n p =
@@ -225,8 +225,8 @@ nothing n p =
       rows = replicate 4 (row 7 7 7 7);
       cited = replicate 5 (cites n p 0 0);
       citations = replicate 3 [];
-      texts = text n p 0 0 0;
-      metadata = [];
+      texts = replicate 2 (text n p 0 0 0);
+      metadata = replicate 2 [];
       measured = replicate 3 (lengths n p 0 0 0);
       block = replicate 40 5;
       short = replicate 134 5;

@@ -4,7 +4,7 @@ use mathlib.Core.Path.{_≡_}
 use mathlib.Core.List.{List}
 use lib.ListN.{length}
 use Rattle.paper.specs.Outcome.{kept}
-use Rattle.paper.specs.Layout.{rule4, rule5, rule7}
+use Rattle.paper.specs.Layout.{rule4, rule5, rule6, rule7}
 use Rattle.paper.specs.Tags.{table, rule27, rule9, rule10, rule11, rule12}
 use Rattle.paper.specs.Pieces.{rule13, rule14}
 use Rattle.paper.specs.Keys.{keys, rule15, rule16, rule17, rule18, rule19}
@@ -20,6 +20,10 @@ module _ (f : List ℕ) (z : verdictOf f .number ≡ 0) where
   pub rule5-kept : rule5 (length f) (headIn f .at) (countIn f (headIn f)) ≡ kept
   unfolding ruled headIn headOf
   rule5-kept = all-kept f z 4
+
+  pub rule6-kept : rule6 (entriesIn f (headIn f)) ≡ kept
+  unfolding ruled
+  rule6-kept = all-kept f z 5
 
   pub rule7-kept : rule7 (length f) (entriesIn f (headIn f)) ≡ kept
   unfolding ruled headIn headOf

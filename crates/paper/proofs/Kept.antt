@@ -16,6 +16,7 @@ use Rattle.paper.specs.Pieces.{Part, part, valueParts, fullList, Piece, 
 use Rattle.paper.specs.Judge.{Head, View, runsOf, surveyOf, piecesOf, fullOf, headIn, countIn, entriesIn, viewAt, view}
 use Rattle.paper.specs.Judge.{tableRules, pieceRules, pictureRules, surveyRules, headStage, directoryStage, nextStage, pictureStage, surveyStage, imageStage, verdictOf}
 use Rattle.paper.proofs.Laws.{or-false, and-eq}
+use Rattle.paper.proofs.Several.{none-bad}
 use Rattle.paper.specs.declared.Verdict.{Verdict}
 use Rattle.paper.specs.declared.Entry.{Entry}
 
@@ -164,7 +165,7 @@ module _ (hs : List Held) (none : hasSome tileTags hs ≡ false) where
 
   rule10-same : rule10 table hs ≡ rule10 tableBefore hs
   unfolding rule10 misfits fitsLine always
-  rule10-same = lines-same (misfits hs) (λ l. refl) (λ l m n. rw (unheld l m)) table tiles-spared
+  rule10-same = lines-same (misfits hs) (λ l. refl) (λ l m n. none-bad (l .tag) (λ h. not (fitsLine l (h .entry))) hs (unheld l m)) table tiles-spared
 
   rule11-same : (big : Bool) → rule11 table big hs ≡ rule11 tableBefore big hs
   unfolding rule11 disallowed always

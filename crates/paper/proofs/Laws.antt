@@ -11,7 +11,7 @@ use lib.Seq.{getD-take, getD-drop, ext-getD, take-take, drop-drop, take-nil}
 use borrow.Author.Tests.{eqb-true, eqb-false, leb-true, le-leb}
 use Rattle.paper.specs.Bytes.{run, num, enc, build}
 use Rattle.paper.specs.Outcome.{Outcome, kept, broken, breaks, firstBad}
-use Rattle.paper.specs.Tests.{all, just, inRange}
+use Rattle.paper.specs.Tests.{all, some, just, inRange}
 use Rattle.paper.specs.Asked.{Bytes}
 
 -- ---- tests
@@ -206,3 +206,10 @@ unfolding all
 all-at ok [] d h i l = absurd (not-suc-le-zero l)
 all-at ok (x ∷ xs) d h zero l = and-eq (ok x) (all ok xs) h .0
 all-at ok (x ∷ xs) d h (suc i) l = all-at ok xs d (and-eq (ok x) (all ok xs) h .1) i (le-of-suc-le-suc l)
+
+-- and one that none passes does at none
+pub none-at : {A : Type 0} (is : A → Bool) (xs : List A) (d : A) → some is xs ≡ false → (i : ℕ) → i < length xs → is (getD xs i d) ≡ false
+unfolding some
+none-at is [] d h i l = absurd (not-suc-le-zero l)
+none-at is (x ∷ xs) d h zero l = or-false (is x) (some is xs) h .0
+none-at is (x ∷ xs) d h (suc i) l = none-at is xs d (or-false (is x) (some is xs) h .1) i (le-of-suc-le-suc l)

@@ -2,7 +2,7 @@
 -- lent rows and lent bytes as they were; an accepting call writes in front only. Assumes nothing.
 use Prim.Native.Nat.{ℕ, _+_, _≤_, _<_}
 use mathlib.Core.Path.{_≡_, refl, sym, ap, _∙_, subst}
-use mathlib.Core.Bool.{Bool, true, false, cond, not, _&&_, or-true, true≢false}
+use mathlib.Core.Bool.{Bool, true, false, cond, not, _&&_, _||_, or-true, true≢false}
 use mathlib.Core.List.{List, [], _∷_, _++_}
 use native.Mathlib.Omega.{arith}
 use lib.Dec.{eqb, ltb}
@@ -11,12 +11,10 @@ use lib.Seq.{drop-append-seam}
 use borrow.Author.Tests.{eqb-false, eqb-true, ne-eqb, ltb-true, ltb-false, le-ltb}
 use Rattle.paper.specs.Outcome.{Outcome, kept, broken, Rule, _▸_, first, verdict}
 use Rattle.paper.specs.Tests.{all, some}
-use Rattle.paper.specs.Tags.{has}
-use Rattle.paper.specs.Tag
 use Rattle.paper.specs.Keys.{Runs, keyCount, keys, hasKey, kindOf, asciiKind, keyRules}
 use Rattle.paper.specs.Judge.{View, view, runsOf, verdictOf, rules}
 use Rattle.paper.specs.Calls.{accepts, answer, judgedOf, judgedIn, notJudged, rowsOf, rowsLeft, rowsOver, rowAt, rowsIn, rule23, counted, countedIn}
-use Rattle.paper.specs.Calls.{citedOf, citedIn, rule26, cited, citation, textOf, textIn, metadataText, readRuns}
+use Rattle.paper.specs.Calls.{citedOf, citedIn, rule26, cited, citation, textsIn, rule29, given, textOf, textIn, metadataText, readRuns}
 use Rattle.paper.specs.Block.{rule24, rule25, block, blockVerdict, blockIn, blockOf, blockLeft, blockOver}
 use Rattle.paper.specs.Block.{blockBytes, blockDirectory, blockDoubles, blockCharacters}
 use Rattle.paper.specs.Lent.{Accepted, Refused, among, fileNumbers, Gives, CallGives, Numbers, plusZero, Refusals, InFront, blockLength, Writes, Needed, Named, Reads, Guarded}
@@ -93,16 +91,18 @@ cited-gives : (k : ℕ) (w : View) → Gives (26 ∷ []) (citedIn k w .verdict)
 unfolding citedIn all some
 cited-gives k w = first-gives (26 ∷ []) (26 ▸ rule26 k (keys (runsOf w)) ∷ []) refl refl
 
-text-zero : (m : ℕ) (w : View) → textIn m w .verdict ≡ verdict 0 0
+-- the text's own rule gives the verdict, whichever text it is
+text-own : (k m : ℕ) (w : View) → textIn k m w .verdict ≡ first (29 ▸ rule29 k (textsIn w) ∷ [])
 unfolding textIn
-text-zero m w = go (has Tag.metadata (w .held)) refl
+text-own k m w = go (eqb (length (textsIn w)) 0) refl
   where
-    go : (t : Bool) → has Tag.metadata (w .held) ≡ t → textIn m w .verdict ≡ verdict 0 0
+    go : (t : Bool) → eqb (length (textsIn w)) 0 ≡ t → textIn k m w .verdict ≡ first (29 ▸ rule29 k (textsIn w) ∷ [])
     go true e = rw e
     go false e = rw e
 
-text-gives : (m : ℕ) (w : View) → Gives [] (textIn m w .verdict)
-text-gives m w = rw (text-zero m w) zero-gives
+text-gives : (k m : ℕ) (w : View) → Gives (29 ∷ []) (textIn k m w .verdict)
+unfolding all some
+text-gives k m w = rw (text-own k m w) (first-gives (29 ∷ []) (29 ▸ rule29 k (textsIn w) ∷ []) refl refl)
 
 block-gives : (m : ℕ) (r : Runs) → Gives (24 ∷ 25 ∷ []) (blockIn m r .verdict)
 unfolding blockIn blockVerdict all some
@@ -120,7 +120,7 @@ numbers f =
       judged = call-gives f _ _ (λ (x : Judged). x .verdict) _ refl zero-gives;
       rows = λ m. call-gives f _ _ (λ (x : Counted). x .verdict) _ refl (rows-gives m (view f));
       cited = λ k. call-gives f _ _ (λ (x : Cited). x .verdict) _ refl (cited-gives k (view f));
-      text = λ m. call-gives f _ _ (λ (x : Text). x .verdict) _ refl (text-gives m (view f));
+      text = λ k m. call-gives f _ _ (λ (x : Text). x .verdict) _ refl (text-gives k m (view f));
       block = λ m. call-gives f _ _ (λ (x : Block). x .verdict) _ refl (block-gives m (runsOf (view f)));
       far = block-far f;
     }
@@ -162,13 +162,28 @@ citation-none f k =
     call f (citedIn k) (λ v. cited v 0 0) (λ c. Refused (c .verdict) → c ≡ record { verdict = c .verdict; start = 0; len = 0 })
     (λ z n. cited-none _ _ _ n) (λ n y. cited-none _ _ _ y)
 
-text-none : (f : List ℕ) (m : ℕ) → Refused (textOf f m .verdict)
-    → textOf f m ≡ record { verdict = textOf f m .verdict; from = 0; start = 0; len = 0 }
+-- a text's place, told beside a verdict
+given-none : (v : Verdict) (from s l : ℕ) → Refused v → given v from s l ≡ record { verdict = v; from = 0; start = 0; len = 0 }
+given-none v from s l n = rw (ne-eqb (v .number) 0 n)
+
+-- nothing stands beside this text's verdict
+abbrev Nothing : Text → Type 0
+Nothing t = t ≡ record { verdict = t .verdict; from = 0; start = 0; len = 0 }
+
+text-in-none : (k m : ℕ) (w : View) → Refused (textIn k m w .verdict) → Nothing (textIn k m w)
+unfolding textIn
+text-in-none k m w = go (eqb (length (textsIn w)) 0) refl
+  where
+    go : (t : Bool) → eqb (length (textsIn w)) 0 ≡ t → Refused (textIn k m w .verdict) → Nothing (textIn k m w)
+    go true e = rw e (λ n. given-none _ _ _ _ n)
+    go false e = rw e (λ n. given-none _ _ _ _ n)
+
+text-none : (f : List ℕ) (k m : ℕ) → Refused (textOf f k m .verdict)
+    → textOf f k m ≡ record { verdict = textOf f k m .verdict; from = 0; start = 0; len = 0 }
 unfolding textOf
-text-none f m =
-    call f (textIn m) (λ v. record { verdict = v; from = 0; start = 0; len = 0 })
-    (λ t. Refused (t .verdict) → t ≡ record { verdict = t .verdict; from = 0; start = 0; len = 0 })
-    (λ z n. absurd (n (ap (λ (v : Verdict). v .number) (text-zero m (view f))))) (λ n y. refl)
+text-none f k m =
+    call f (textIn k m) (λ v. given v 0 0 0) (λ t. Refused (t .verdict) → Nothing t)
+    (λ z. text-in-none k m (view f)) (λ n y. given-none _ _ _ _ y)
 
 lengths-none : (v : Verdict) (d x c : ℕ) → Refused v → block v d x c ≡ record { verdict = v; directory = 0; doubles = 0; characters = 0 }
 lengths-none v d x c n = rw (ne-eqb (v .number) 0 n)
@@ -302,9 +317,18 @@ cited-asked w k p h = go (not (eqb (kindOf k) asciiKind && hasKey k (keys (runsO
     go true e = sym (place-same (rw e at h))
     go false e = let z : _≡_ {A = ℕ} 0 26 = numbers-same (rw e at h) in absurd (omega arith)
 
+text-asked : (w : View) (k m p : ℕ) → textIn k m w .verdict ≡ verdict 29 p → p ≡ k
+unfolding rule29 first
+text-asked w k m p h = go (not (ltb k (length (textsIn w)) || (eqb (length (textsIn w)) 0 && eqb k 0))) refl (sym (text-own k m w) ∙ h)
+  where
+    go : (t : Bool) → not (ltb k (length (textsIn w)) || (eqb (length (textsIn w)) 0 && eqb k 0)) ≡ t
+        → first (29 ▸ rule29 k (textsIn w) ∷ []) ≡ verdict 29 p → p ≡ k
+    go true e x = sym (place-same (rw e at x))
+    go false e x = let z : _≡_ {A = ℕ} 0 29 = numbers-same (rw e at x) in absurd (omega arith)
+
 pub named : (f : List ℕ) → Named f
-unfolding rowsOf citedOf blockOf some
-named f = record { rows = rows; block = block-at; cited = cited-at }
+unfolding rowsOf citedOf textOf blockOf some
+named f = record { rows = rows; block = block-at; cited = cited-at; text = text-at }
   where
     rows : (m p : ℕ) → rowsOf f m .verdict ≡ verdict 23 p → Needed m p (rowsOf f p .verdict) (rowsOf f p .keys)
     rows m p h =
@@ -323,6 +347,11 @@ named f = record { rows = rows; block = block-at; cited = cited-at }
         let z : Accepted (verdictOf f) = own-after f (26 ∷ []) (citedOf f k .verdict) 26 p (numbers f .cited k) refl h in
         cited-asked (view f) k p (rw (answer-good f (citedIn k) (λ v. cited v 0 0) z) at h)
 
+    text-at : (k m p : ℕ) → textOf f k m .verdict ≡ verdict 29 p → p ≡ k
+    text-at k m p h =
+        let z : Accepted (verdictOf f) = own-after f (29 ∷ []) (textOf f k m .verdict) 29 p (numbers f .text k m) refl h in
+        text-asked (view f) k m p (rw (answer-good f (textIn k m) (λ v. given v 0 0 0) z) at h)
+
 -- ---- the demand
 
 pub refusals : (f : List ℕ) → Refusals f
@@ -335,7 +364,7 @@ refusals f =
       cited = citation-none f;
       citation = λ k n. rw (citation-none f k n);
       text = text-none f;
-      metadata = λ outside n. rw (text-none f (length outside) n);
+      metadata = λ k outside n. rw (text-none f k (length outside) n);
       block = block-none f;
       output = λ out. block-left f out .0;
     }

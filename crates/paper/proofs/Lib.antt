@@ -17,8 +17,11 @@ pub mod Called
 pub mod Unseen
 pub mod Listed
 pub mod Kept
+pub mod Several
+pub mod Once
 pub mod Citation
 pub mod Metadata
+pub mod Texts
 pub mod Picture
 pub mod Codec
 pub mod RoundTrip
@@ -37,6 +40,7 @@ pub mod Boundaries
 pub mod TagBoundaries
 pub mod KeyBoundaries
 pub mod Tiled
+pub mod Repeated
 pub mod Tables
 -- laws that the proofs of code cite
 pub mod Laws

@@ -11,7 +11,7 @@ use borrow.Author.Tests.{eqb-true, eqb-false, ltb-true, not-true}
 use Rattle.paper.specs.Bytes.{build}
 use Rattle.paper.specs.Outcome.{Outcome, kept, broken, breaks, firstOf, Fault, firstThere, firstBad, ascendingFrom, ascending, Rule, first, verdict, ordered, orderedFrom}
 use Rattle.paper.specs.Tests.{all}
-use Rattle.paper.specs.Layout.{rule1, rule2, rule3, rule4, rule5, rule6, rule7, rule8}
+use Rattle.paper.specs.Layout.{behind, rule1, rule2, rule3, rule4, rule5, rule6, rule7, rule8}
 use Rattle.paper.specs.Tags.{Held, table, tiled, disagreements, rule27, rule9, rule10, rule11, rule12}
 use Rattle.paper.specs.Pieces.{Piece, placeAt, placesOf, pieces, rule13, rule14}
 use Rattle.paper.specs.Keys.{fixedKeys, rule15, rule16, rule17, rule18, rule19}
@@ -286,7 +286,7 @@ module _ (f : List ℕ) where
   places =
       record {
         ungiven = ungiven-zero;
-        at6 = λ p h. first-fall ltb _ p (outcome 6 p refl h);
+        at6 = λ p h. first-fall behind _ p (outcome 6 p refl h);
         at7 = λ p h. first-fault _ _ _ p (outcome 7 p refl h);
         at9 = λ p h. lowest _ _ table p table-order (first-fault _ _ _ p (outcome 9 p refl h));
         at10 = λ p h. lowest _ _ table p table-order (first-fault _ _ _ p (outcome 10 p refl h));

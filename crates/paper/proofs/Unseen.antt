@@ -227,9 +227,9 @@ module _ (f g : List ℕ) (n : length f ≡ length g) (h : Agree f g (readingLis
   unfolding citedOf
   cited-same k = answer-same _ _
 
-  pub text-same : (m : ℕ) → textOf f m ≡ textOf g m
+  pub text-same : (k m : ℕ) → textOf f k m ≡ textOf g k m
   unfolding textOf
-  text-same m = answer-same _ _
+  text-same k m = answer-same _ _
 
   pub block-same : (m : ℕ) → blockOf f m ≡ blockOf g m
   unfolding blockOf

@@ -18,7 +18,7 @@ use Rattle.paper.specs.Shown.{hasTag, startIn, numberIn, valueIn}
 use Rattle.paper.proofs.Laws.{and-eq, or-same, run-length-in, num-run, length-build, getD-build, all-at, kept-all}
 use Rattle.paper.proofs.Keeps.{rule4-kept, rule5-kept, rule7-kept, rule9-kept, rule10-kept}
 use Rattle.paper.proofs.Loops.{findEntry, find-entry}
-use Rattle.paper.proofs.Bounds.{Inside, rule4-gives, rule5-gives, found-all, found-inside, noLine, fits-line}
+use Rattle.paper.proofs.Bounds.{Inside, rule4-gives, rule5-gives, found-all, found-inside, noLine, table-named, fits-line}
 use Rattle.paper.proofs.Held.{held-bytes, tag-part}
 use Rattle.paper.specs.declared.Entry.{Entry}
 
@@ -122,7 +122,7 @@ module _ (f : List ℕ) (z : verdictOf f .number ≡ 0) where
   pub present-count : (i : ℕ) → i < length table → hasLine f i ≡ true → (lineAt i .least ≤ entryIn f i .count) × (entryIn f i .count ≤ lineAt i .most)
   unfolding fitsLine
   present-count i l p =
-      let fit = and-eq (eqb (entryIn f i .typ) (lineAt i .type) || eqb (entryIn f i .typ) (lineAt i .other)) _ (fits-line table (view f .held) (rule10-kept f z) i l p) .1 in
+      let fit = and-eq (eqb (entryIn f i .typ) (lineAt i .type) || eqb (entryIn f i .typ) (lineAt i .other)) _ (fits-line table table-named (view f .held) (rule10-kept f z) i l p) .1 in
       let both = and-eq (leb (lineAt i .least) (entryIn f i .count)) _ fit in
       (leb-true _ _ (both .0), leb-true _ _ (both .1))
 
@@ -130,7 +130,7 @@ module _ (f : List ℕ) (z : verdictOf f .number ≡ 0) where
   pub present-type : (i : ℕ) → i < length table → hasLine f i ≡ true → lineAt i .type ≡ lineAt i .other → entryIn f i .typ ≡ lineAt i .type
   unfolding fitsLine
   present-type i l p one =
-      let fit = and-eq (eqb (entryIn f i .typ) (lineAt i .type) || eqb (entryIn f i .typ) (lineAt i .other)) _ (fits-line table (view f .held) (rule10-kept f z) i l p) .0 in
+      let fit = and-eq (eqb (entryIn f i .typ) (lineAt i .type) || eqb (entryIn f i .typ) (lineAt i .other)) _ (fits-line table table-named (view f .held) (rule10-kept f z) i l p) .0 in
       eqb-true _ _ (or-same _ (rw (← one) at fit))
 
   -- its value is on the reading list
@@ -140,7 +140,7 @@ module _ (f : List ℕ) (z : verdictOf f .number ≡ 0) where
       let tag : entryIn f i .tag ≡ lineAt i .tag = eqb-true _ _ p in
       let good = and-eq (inTable table (lineAt i .tag)) _ (all-at readable table noLine all-readable i l) in
       let sizes = and-eq (ltb 0 (sizeOf (lineAt i .type))) _ (good .1) in
-      let fit = and-eq (eqb (entryIn f i .typ) (lineAt i .type) || eqb (entryIn f i .typ) (lineAt i .other)) _ (fits-line table (view f .held) (rule10-kept f z) i l p) .0 in
+      let fit = and-eq (eqb (entryIn f i .typ) (lineAt i .type) || eqb (entryIn f i .typ) (lineAt i .other)) _ (fits-line table table-named (view f .held) (rule10-kept f z) i l p) .0 in
       rw (tag, good .0) (either (eqb (entryIn f i .typ) (lineAt i .type)) refl (sizes .0) (sizes .1) fit)
     where
       either : (b : Bool) → eqb (entryIn f i .typ) (lineAt i .type) ≡ b → ltb 0 (sizeOf (lineAt i .type)) ≡ true → ltb 0 (sizeOf (lineAt i .other)) ≡ true

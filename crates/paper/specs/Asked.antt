@@ -75,7 +75,7 @@ onList i ps = some (inPart i) ps
 abbrev pub Agree : List ℕ → List ℕ → List Part → Type 0
 Agree f g ps = (i : ℕ) → T (onList i ps) → getD f i 0 ≡ getD g i 0
 
--- every answer of every call, for every key asked, every outside text, all lent rows and every output with its contents
+-- every answer of every call, for every key and every number of a text asked, every outside text, all lent rows and every output with its contents
 pub record SameAnswers (f g : List ℕ) : Type 0 where
   pub verdict : verdictOf f ≡ verdictOf g
   pub judged : judgedOf f ≡ judgedOf g
@@ -83,8 +83,8 @@ pub record SameAnswers (f g : List ℕ) : Type 0 where
   pub rows : (lent : List Row) → rowsLeft f lent ≡ rowsLeft g lent
   pub cited : (k : ℕ) → citedOf f k ≡ citedOf g k
   pub citations : (k : ℕ) → citation f k ≡ citation g k
-  pub texts : (m : ℕ) → textOf f m ≡ textOf g m
-  pub metadatas : (outside : List ℕ) → metadataText f outside ≡ metadataText g outside
+  pub texts : (k m : ℕ) → textOf f k m ≡ textOf g k m
+  pub metadatas : (k : ℕ) (outside : List ℕ) → metadataText f k outside ≡ metadataText g k outside
   pub lengths : (m : ℕ) → blockOf f m ≡ blockOf g m
   pub blocks : (out : List ℕ) → blockLeft f out ≡ blockLeft g out
 

@@ -1,17 +1,19 @@
--- What each call answers, and what it leaves in lent memory; rules 23 and 26. Assumes nothing.
+-- What each call answers, and what it leaves in lent memory; rules 23 and 26, and 29 of request C-12. Assumes nothing.
 use Prim.Native.Nat.{ℕ, _+_, _-_, _*_}
-use mathlib.Core.Bool.{Bool, false, cond, not, _&&_}
+use mathlib.Core.Bool.{Bool, false, cond, not, _&&_, _||_}
 use mathlib.Core.List.{List, [], _∷_, _++_}
 use lib.Dec.{ltb, eqb}
-use lib.ListN.{length, drop}
+use lib.ListN.{length, getD, drop}
 use Rattle.paper.specs.Bytes.{run, build}
 use Rattle.paper.specs.Outcome.{Outcome, breaks, _▸_, first, verdict}
 use Rattle.paper.specs.Tag
-use Rattle.paper.specs.Tags.{find, has}
+use Rattle.paper.specs.Tests.{keep}
+use Rattle.paper.specs.Tags.{Held, absent, find}
 use Rattle.paper.specs.Keys.{Runs, keyAt, keyCount, keys, hasKey, findKey, asciiKind, kindOf, keyRules}
 use Rattle.paper.specs.Ground.{corners, georeference, zero64}
 use Rattle.paper.specs.Judge.{View, view, runsOf, surveyOf, verdictOf}
 use Rattle.paper.specs.declared.Verdict.{Verdict}
+use Rattle.paper.specs.declared.Entry.{Entry}
 use Rattle.paper.specs.declared.KeyEntry.{KeyEntry}
 use Rattle.paper.specs.declared.Row.{Row}
 use Rattle.paper.specs.declared.Corners.{Corners}
@@ -106,7 +108,7 @@ rowsOver lent w =
 unfoldable pub rowsLeft : List ℕ → List Row → List Row
 rowsLeft f lent = answer f (rowsOver lent) (λ v. lent)
 
--- ---- a citation, and the metadata text
+-- ---- a citation
 
 unfoldable pub rule26 : ℕ → List KeyEntry → Outcome
 rule26 k ks = breaks (not (eqb (kindOf k) asciiKind && hasKey k ks)) k
@@ -126,26 +128,36 @@ citedOf f k = answer f (citedIn k) (λ v. cited v 0 0)
 unfoldable pub citation : List ℕ → ℕ → List ℕ
 citation f k = run f (citedOf f k .start) (citedOf f k .len)
 
--- where the metadata text stands: 0 the file, 1 the outside text
-unfoldable pub textIn : ℕ → View → Text
-textIn m w =
-    cond (has Tag.metadata (w .held))
-    (record {
-      verdict = verdict 0 0;
-      from = 0;
-      start = find Tag.metadata (w .held) .entry .start;
-      len = find Tag.metadata (w .held) .entry .len;
-    })
-    (record { verdict = verdict 0 0; from = 1; start = 0; len = m })
+-- ---- a metadata text, by its number
 
--- m bytes of outside text
-unfoldable pub textOf : List ℕ → ℕ → Text
-textOf f m = answer f (textIn m) (λ v. record { verdict = v; from = 0; start = 0; len = 0 })
+-- the entries of tag 50909, in the directory's order
+unfoldable pub textsIn : View → List Held
+textsIn w = keep (λ h. eqb (h .entry .tag) Tag.metadata) (w .held)
+
+-- a text of number k is there: the file has more than k of these tags, or it has none at all, where the outside text is number 0
+unfoldable pub rule29 : ℕ → List Held → Outcome
+rule29 k ts = breaks (not (ltb k (length ts) || (eqb (length ts) 0 && eqb k 0))) k
+
+-- where the text stands: from 0 in the file, from 1 in the outside text
+abbrev pub given : Verdict → ℕ → ℕ → ℕ → Text
+given v from s l =
+    record { verdict = v; from = cond (accepts v) from 0; start = cond (accepts v) s 0; len = cond (accepts v) l 0 }
+
+-- text k, with m bytes of outside text
+unfoldable pub textIn : ℕ → ℕ → View → Text
+textIn k m w =
+    let ts : List Held = textsIn w in
+    let e : Entry = getD ts k absent .entry in
+    let v : Verdict = first (29 ▸ rule29 k ts ∷ []) in
+    cond (eqb (length ts) 0) (given v 1 0 m) (given v 0 (e .start) (e .len))
+
+unfoldable pub textOf : List ℕ → ℕ → ℕ → Text
+textOf f k m = answer f (textIn k m) (λ v. given v 0 0 0)
 
 -- the part of the file, or of the outside text, that is handed back
-unfoldable pub metadataText : List ℕ → List ℕ → List ℕ
-metadataText f outside =
-    let t : Text = textOf f (length outside) in
+unfoldable pub metadataText : List ℕ → ℕ → List ℕ → List ℕ
+metadataText f k outside =
+    let t : Text = textOf f k (length outside) in
     run (cond (eqb (t .from) 0) f outside) (t .start) (t .len)
 
 -- ---- reading three runs back, without a file

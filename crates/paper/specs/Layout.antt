@@ -1,4 +1,4 @@
--- Document 01, 'Layout', and rules 1 to 8: the head, the count, the directory.
+-- Document 01, 'Layout', and rules 1 to 8, rule 6 as request C-12 leaves it: the head, the count, the directory.
 -- Each rule is a function of the file's length n and of runs of the file, never of the file itself. Assumes nothing.
 use Prim.Native.Nat.{ℕ, _+_, _*_, _%_}
 use mathlib.Core.Bool.{Bool, cond, not, _&&_, _||_}
@@ -6,7 +6,8 @@ use mathlib.Core.List.{List, [], _∷_, map}
 use lib.Dec.{ltb, leb, eqb}
 use lib.ListN.{getD}
 use Rattle.paper.specs.Bytes.{num, build}
-use Rattle.paper.specs.Outcome.{Outcome, breaks, firstBad, ascending}
+use Rattle.paper.specs.Outcome.{Outcome, breaks, firstBad, ordered}
+use Rattle.paper.specs.Tag
 use Rattle.paper.specs.declared.Entry.{Entry}
 
 abbrev pub odd : ℕ → Bool
@@ -89,8 +90,12 @@ entryAt big at dir i = entryOf big at dir (2 + 12 * i)
 unfoldable pub entries : Bool → ℕ → ℕ → List ℕ → List Entry
 entries big at c dir = build (entryAt big at dir) 0 c
 
+-- tag b may stand behind tag a: it is greater, or both are 50909, which may stand more than once
+unfoldable pub behind : ℕ → ℕ → Bool
+behind a b = ltb a b || (eqb a Tag.metadata && eqb b Tag.metadata)
+
 unfoldable pub rule6 : List Entry → Outcome
-rule6 es = ascending (map (λ e. e .tag) es)
+rule6 es = ordered behind (map (λ e. e .tag) es)
 
 -- an entry of type 1 to 12
 abbrev pub typed : Entry → Bool

@@ -51,7 +51,7 @@ pub record Numbers (f : List ℕ) : Type 0 where
   pub judged : CallGives f [] (judgedOf f .verdict)
   pub rows : (m : ℕ) → CallGives f (23 ∷ []) (rowsOf f m .verdict)
   pub cited : (k : ℕ) → CallGives f (26 ∷ []) (citedOf f k .verdict)
-  pub text : (m : ℕ) → CallGives f [] (textOf f m .verdict)
+  pub text : (k m : ℕ) → CallGives f (29 ∷ []) (textOf f k m .verdict)
   pub block : (m : ℕ) → CallGives f (24 ∷ 25 ∷ []) (blockOf f m .verdict)
   -- 24 before 25, whatever the room
   pub far : (m p : ℕ) → Accepted (verdictOf f) → rule24 (runsOf (view f)) ≡ broken p → blockOf f m .verdict ≡ verdict 24 p
@@ -76,8 +76,8 @@ pub record Refusals (f : List ℕ) : Type 0 where
   pub rows : (lent : List Row) → Refused (rowsOf f (length lent) .verdict) → rowsLeft f lent ≡ lent
   pub cited : (k : ℕ) → Refused (citedOf f k .verdict) → citedOf f k ≡ record { verdict = citedOf f k .verdict; start = 0; len = 0 }
   pub citation : (k : ℕ) → Refused (citedOf f k .verdict) → citation f k ≡ []
-  pub text : (m : ℕ) → Refused (textOf f m .verdict) → textOf f m ≡ record { verdict = textOf f m .verdict; from = 0; start = 0; len = 0 }
-  pub metadata : (outside : List ℕ) → Refused (textOf f (length outside) .verdict) → metadataText f outside ≡ []
+  pub text : (k m : ℕ) → Refused (textOf f k m .verdict) → textOf f k m ≡ record { verdict = textOf f k m .verdict; from = 0; start = 0; len = 0 }
+  pub metadata : (k : ℕ) (outside : List ℕ) → Refused (textOf f k (length outside) .verdict) → metadataText f k outside ≡ []
   pub block : (m : ℕ) → Refused (blockOf f m .verdict)
       → blockOf f m ≡ record { verdict = blockOf f m .verdict; directory = 0; doubles = 0; characters = 0 }
   pub output : (out : List ℕ) → Refused (blockOf f (length out) .verdict) → blockLeft f out ≡ out
@@ -107,11 +107,12 @@ pub record Needed (m p : ℕ) (v : Verdict) (n : ℕ) : Type 0 where
   pub enough : Accepted v
   pub filled : n ≡ p
 
--- 23 and 25 name the rows and the bytes that are needed, 26 the key asked
+-- 23 and 25 name the rows and the bytes that are needed, 26 the key asked, 29 the number asked
 pub record Named (f : List ℕ) : Type 0 where
   pub rows : (m p : ℕ) → rowsOf f m .verdict ≡ verdict 23 p → Needed m p (rowsOf f p .verdict) (rowsOf f p .keys)
   pub block : (m p : ℕ) → blockOf f m .verdict ≡ verdict 25 p → Needed m p (blockOf f p .verdict) (blockLength (blockOf f p))
   pub cited : (k p : ℕ) → citedOf f k .verdict ≡ verdict 26 p → p ≡ k
+  pub text : (k m p : ℕ) → textOf f k m .verdict ≡ verdict 29 p → p ≡ k
 
 -- ---- three runs read back, without a file
 

@@ -7,7 +7,7 @@ use mathlib.Core.List.{List, [], _∷_, _++_, map}
 use lib.Dec.{ltb}
 use lib.ListN.{length}
 use Rattle.paper.specs.Outcome.{Fault, verdict}
-use Rattle.paper.specs.Layout.{badValue}
+use Rattle.paper.specs.Layout.{behind, badValue}
 use Rattle.paper.specs.Tags.{table, tiled, lacks, misfits, disallowed, disagreements}
 use Rattle.paper.specs.Pieces.{Piece, badPiece, touches}
 use Rattle.paper.specs.Keys.{keys, misplaced, absences, fixedKeys, forbidden}
@@ -87,8 +87,8 @@ placeless = 1 ∷ 2 ∷ 3 ∷ 4 ∷ 5 ∷ 8 ∷ 27 ∷ 15 ∷ 20 ∷ 22 ∷ []
 pub record Places (f : List ℕ) : Type 0 where
   -- the place is 0 unless given
   pub ungiven : (k : ℕ) → In k placeless → Placed f k (λ p. p ≡ 0)
-  -- a tag not greater than the one before: the later tag of the first such pair
-  pub at6 : Placed f 6 (FirstFall ltb (map (λ e. e .tag) (entriesIn f (headIn f))))
+  -- a tag not greater than the one before, other than a 50909 behind a 50909: the later tag of the first such pair
+  pub at6 : Placed f 6 (FirstFall behind (map (λ e. e .tag) (entriesIn f (headIn f))))
   -- a wrong count or offset: the first such tag
   pub at7 : Placed f 7 (FirstFault (badValue (length f)) (λ e. e .tag) (entriesIn f (headIn f)))
   -- a needed tag absent; another type or count; a value not allowed: the lowest tag

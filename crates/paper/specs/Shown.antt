@@ -1,5 +1,5 @@
 -- The words for what an accepted file shows, as it stands in the file: its keys and the rows that say where their values are, its georeference and
--- its corners, the pieces of its picture. `proofs/Shown` shows that it does. Assumes nothing.
+-- its corners, the pieces of its picture, its metadata texts. `proofs/Shown` shows that it does. Assumes nothing.
 use Prim.Native.Nat.{ℕ, _+_, _-_, _*_, _≤_, _<_}
 use mathlib.Core.Path.{_≡_}
 use mathlib.Core.Bool.{Bool, true, false, cond}
@@ -10,15 +10,18 @@ use lib.ListN.{length, getD}
 use lib.Ieee as Ieee
 use lib.Ieee.{Float, binary64}
 use Rattle.paper.specs.Bytes.{run, num, elems}
+use Rattle.paper.specs.Outcome.{verdict}
+use Rattle.paper.specs.Tests.{keep}
 use Rattle.paper.specs.Layout.{sizeOf}
 use Rattle.paper.specs.Tag
-use Rattle.paper.specs.Tags.{find, has, countOf, roundedUp}
+use Rattle.paper.specs.Tags.{absent, find, has, countOf, roundedUp}
 use Rattle.paper.specs.Key
 use Rattle.paper.specs.Keys.{keyAt, keyCount, keys, keyValue, kindOf}
 use Rattle.paper.specs.Ground.{_⊞_, _⊟_, _⊠_, ofNat, zero64, one64, finite}
-use Rattle.paper.specs.Judge.{view, runsOf, headIn, piecesOf}
-use Rattle.paper.specs.Calls.{judgedOf, rowsLeft}
+use Rattle.paper.specs.Judge.{view, runsOf, headIn, entriesIn, piecesOf}
+use Rattle.paper.specs.Calls.{judgedOf, rowsLeft, textOf, metadataText}
 use Rattle.paper.specs.Asked.{elementsOf, noPiece}
+use Rattle.paper.specs.declared.Entry.{Entry}
 use Rattle.paper.specs.declared.KeyEntry.{KeyEntry}
 use Rattle.paper.specs.declared.Row.{Row}
 use Rattle.paper.specs.declared.Corners.{Corners}
@@ -206,10 +209,41 @@ pub record PiecesHold (f : List ℕ) : Type 0 where
   pub kind : StripsHold f ⊎ TilesHold f
   pub some : 0 < piecesIn f
 
--- ---- all of it: the keys, the rows where K or more are lent, the place on the ground, the pieces
+-- ---- the metadata texts
+
+-- the entries of tag 50909, in the directory's order
+abbrev pub textEntries : List ℕ → List Entry
+textEntries f = keep (λ e. eqb (e .tag) Tag.metadata) (entriesIn f (headIn f))
+
+-- how many there are, and number k of them, counted from 0
+abbrev pub textsHeld : List ℕ → ℕ
+textsHeld f = length (textEntries f)
+
+abbrev pub textEntry : List ℕ → ℕ → Entry
+textEntry f k = getD (textEntries f) k (absent .entry)
+
+-- number k is given, with an outside text lent: where it stands, from 0 in the file and from 1 in the outside text, and its bytes
+pub record TextIs (f : List ℕ) (k : ℕ) (outside : List ℕ) (from start len : ℕ) (bytes : List ℕ) : Type 0 where
+  pub accepted : textOf f k (length outside) .verdict ≡ verdict 0 0
+  pub from-is : textOf f k (length outside) .from ≡ from
+  pub start-is : textOf f k (length outside) .start ≡ start
+  pub len-is : textOf f k (length outside) .len ≡ len
+  pub bytes-are : metadataText f k outside ≡ bytes
+
+pub record TextsHold (f : List ℕ) : Type 0 where
+  -- number k is the value of entry k, as it stands in the file, whatever the outside text is
+  pub own : (k : ℕ) (outside : List ℕ) → k < textsHeld f
+      → TextIs f k outside 0 (textEntry f k .start) (textEntry f k .len) (run f (textEntry f k .start) (textEntry f k .len))
+  -- with no such entry number 0 is the whole outside text
+  pub outer : (outside : List ℕ) → textsHeld f ≡ 0 → TextIs f 0 outside 1 0 (length outside) outside
+  -- there is no other: past the last number the call refuses by 29, with the number as place
+  pub none : (k m : ℕ) → textsHeld f ≤ k → 0 < k → textOf f k m .verdict ≡ verdict 29 k
+
+-- ---- all of it: the keys, the rows where K or more are lent, the place on the ground, the pieces, the texts
 
 pub record Shows (f : List ℕ) : Type 0 where
   pub keys : KeysHold f
   pub rows : (lent : List Row) → keysIn f ≤ length lent → RowsHold f lent
   pub ground : GroundHolds f
   pub pieces : PiecesHold f
+  pub texts : TextsHold f

@@ -191,8 +191,9 @@ unfoldable pub fitsLine : Line → Entry → Bool
 fitsLine l e =
     (eqb (e .typ) (l .type) || eqb (e .typ) (l .other)) && (leb (l .least) (e .count) && leb (e .count) (l .most))
 
+-- some entry of the line's tag does not fit it
 unfoldable pub misfits : List Held → Line → Bool
-misfits hs l = has (l .tag) hs && not (fitsLine l (find (l .tag) hs .entry))
+misfits hs l = some (λ h. eqb (h .entry .tag) (l .tag) && not (fitsLine l (h .entry))) hs
 
 unfoldable pub rule10 : List Line → List Held → Outcome
 rule10 tb hs = firstBad (misfits hs) (λ l. l .tag) tb

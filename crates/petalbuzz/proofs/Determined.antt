@@ -108,12 +108,12 @@ pub text-determined : Determined Text text.Learnt (λ κs x s. x)
 text-determined κs a x y s t p q = p .0 ∙ sym (q .0)
 
 -- the bytes of the part; verdict, place
-pub metadata-determined : Determined (List ℕ × ℕ × ℕ) metadata.Learnt (λ κs x s. (now x, now (s .1 .1 .0), now (s .1 .1 .1 .0)))
+pub metadata-determined : Determined (List ℕ × ℕ × ℕ) metadata.Learnt (λ κs x s. (now x, now (s .1 .1 .1 .0), now (s .1 .1 .1 .1 .0)))
 metadata-determined κs a x y s t p q = rw (p .0, p .1 .0, p .1 .1, q .0, q .1 .0, q .1 .1)
 
 -- verdict, place, from, start, length
 pub c-metadata-determined : Determined (ℕ × ℕ × ℕ × ℕ × ℕ) c-metadata.Learnt
-    (λ κs x s. (now (s .1 .1 .0), now (s .1 .1 .1 .0), now (s .1 .1 .1 .1 .0), now (s .1 .1 .1 .1 .1 .0), now (s .1 .1 .1 .1 .1 .1 .0)))
+    (λ κs x s. (now (s .1 .1 .1 .0), now (s .1 .1 .1 .1 .0), now (s .1 .1 .1 .1 .1 .0), now (s .1 .1 .1 .1 .1 .1 .0), now (s .1 .1 .1 .1 .1 .1 .1 .0)))
 c-metadata-determined κs a x y s t p q =
     rw (p .0, p .1 .0, p .1 .1 .0, p .1 .1 .1 .0, p .1 .1 .1 .1 .0, q .0, q .1 .0, q .1 .1 .0, q .1 .1 .1 .0, q .1 .1 .1 .1 .0)
 

@@ -131,26 +131,27 @@ pub extern "C" fn petalbuzz_citation(
     *len = c.len;
 }
 
-// Where the metadata text stands, from 0 in the file or 1 in the outside text: its start and its length there, with verdict and place.
+// Where a metadata text stands, by its number, from 0 in the file or 1 in the outside text: its start and its length there, with verdict and place.
 #[no_mangle]
 pub extern "C" fn petalbuzz_metadata(
     file: &[u8],
     outside: &[u8],
+    number: u32,
     verdict: &mut u32,
     place: &mut u32,
     from: &mut u32,
     start: &mut usize,
     len: &mut usize,
 )
-    ensures verdict { λ _. ⌜ now (verdict .exit) ≡ textOf (now (file .entry)) (length (now (outside .entry))) .verdict .number ⌝ }
-    ensures place { λ _. ⌜ now (place .exit) ≡ textOf (now (file .entry)) (length (now (outside .entry))) .verdict .place ⌝ }
-    ensures from { λ _. ⌜ now (from .exit) ≡ textOf (now (file .entry)) (length (now (outside .entry))) .from ⌝ }
-    ensures start { λ _. ⌜ now (start .exit) ≡ textOf (now (file .entry)) (length (now (outside .entry))) .start ⌝ }
-    ensures len { λ _. ⌜ now (len .exit) ≡ textOf (now (file .entry)) (length (now (outside .entry))) .len ⌝ }
-    ensures part { λ _. ⌜ run (cond (eqb (now (from .exit)) 0) (now (file .entry)) (now (outside .entry))) (now (start .exit)) (now (len .exit)) ≡ metadataText (now (file .entry)) (now (outside .entry)) ⌝ }
+    ensures verdict { λ _. ⌜ now (verdict .exit) ≡ textOf (now (file .entry)) number (length (now (outside .entry))) .verdict .number ⌝ }
+    ensures place { λ _. ⌜ now (place .exit) ≡ textOf (now (file .entry)) number (length (now (outside .entry))) .verdict .place ⌝ }
+    ensures from { λ _. ⌜ now (from .exit) ≡ textOf (now (file .entry)) number (length (now (outside .entry))) .from ⌝ }
+    ensures start { λ _. ⌜ now (start .exit) ≡ textOf (now (file .entry)) number (length (now (outside .entry))) .start ⌝ }
+    ensures len { λ _. ⌜ now (len .exit) ≡ textOf (now (file .entry)) number (length (now (outside .entry))) .len ⌝ }
+    ensures part { λ _. ⌜ run (cond (eqb (now (from .exit)) 0) (now (file .entry)) (now (outside .entry))) (now (start .exit)) (now (len .exit)) ≡ metadataText (now (file .entry)) number (now (outside .entry)) ⌝ }
     ensures within { λ _. ⌜ now (start .exit) + now (len .exit) ≤ cond (eqb (now (from .exit)) 0) (length (now (file .entry))) (length (now (outside .entry))) ⌝ }
 {
-    let t = texts::text(file, outside.len());
+    let t = texts::text(file, number, outside.len());
     *verdict = t.verdict.number;
     *place = t.verdict.place;
     *from = t.from;

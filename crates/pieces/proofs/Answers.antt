@@ -1,68 +1,67 @@
--- The gap around a byte as `gap_of` computes it, and the ends of a place as `is_out` counts them: one law for each answer, with the facts of its
--- path as premises. Assumes nothing.
-use Prim.Native.Nat.{ℕ, _+_, _-_, _%_, _≤_, _<_, min, max, zero-le}
-use mathlib.Core.Path.{_≡_, refl, ap, _∙_, subst}
+-- The gap around a byte as `gap_of` and `narrow` compute it, and the ends of a place as `is_out` counts them: one law for each answer, with the
+-- facts of its path as premises. Assumes nothing.
+use Prim.Native.Nat.{ℕ, _+_, _-_, _*_, _%_, _≤_, _<_, min, max, zero-le}
+use mathlib.Core.Path.{_≡_, refl, sym, ap, _∙_, subst}
 use mathlib.Core.Bool.{Bool, true, false, cond, _&&_, _||_, or-true}
-use mathlib.Core.List.{List, [], _∷_}
+use mathlib.Core.List.{List, [], _∷_, _++_, append-nil}
 use native.Mathlib.Omega.{arith}
 use native.Mathlib.Nat.{sub-zero, zero-add}
 use lib.Dec.{ltb, leb, eqb}
 use lib.ListN.{getD}
 use borrow.Author.Tests.{eqb-true, eqb-false, leb-true, le-leb, lt-leb, ltb-true, ltb-false, le-ltb, lt-ltb}
-use Rattle.paper.specs.Bytes.{build}
+use Rattle.paper.specs.Bytes.{num, build}
 use Rattle.paper.specs.Tests.{keep}
 use Rattle.paper.specs.Pieces.{part}
 use Rattle.paper.specs.declared.Part.{Part}
 use Rattle.paper.proofs.Laws.{build-step, and-eq}
 use Rattle.paper.proofs.Loops.{build-end}
-use Rattle.pieces.specs.Gaps.{Addable, partAt, wide, partsOf, Found}
-use Rattle.pieces.proofs.Gaps.{Around, around-none, around-behind, around-before, found-gap}
+use Rattle.pieces.specs.Gaps.{partAt, wide, partsOf, namedAt, namedParts, Found}
+use Rattle.pieces.specs.declared.Gap.{Gap}
+use Rattle.pieces.proofs.Gaps.{Around, around-none, around-behind, around-before, found-gap, gap-found}
 
--- ---- gap_of: the parts from j on
+-- ---- gap_of and narrow: the parts from j on, of m, in front of those that were seen before
 
-abbrev pub partsFrom : List ℕ → List ℕ → ℕ → ℕ → List Part
-partsFrom starts lens m j = keep wide (build (partAt starts lens) j (m - j))
+abbrev pub partsFrom : (ℕ → Part) → ℕ → List Part → ℕ → List Part
+partsFrom at m ps j = keep wide (build at j (m - j)) ++ ps
 
-module _ (starts lens : List ℕ) (m : ℕ) where
+module _ (at : ℕ → Part) (m : ℕ) (ps : List Part) where
   abbrev Parts : ℕ → List Part
-  Parts j = partsFrom starts lens m j
+  Parts j = partsFrom at m ps j
 
-  abbrev At : ℕ → Part
-  At j = part (getD starts j 0) (getD lens j 0)
-
-  parts-none : Parts m ≡ []
+  parts-none : Parts m ≡ ps
   unfolding keep
-  parts-none = ap (keep wide) (build-end (partAt starts lens) m)
+  parts-none = ap (λ (xs : List Part). keep wide xs ++ ps) (build-end at m)
 
-  parts-all : (j : ℕ) → j ≤ 0 → Parts j ≡ partsOf starts lens m
-  unfolding partsOf
+  parts-all : (j : ℕ) → j ≤ 0 → Parts j ≡ keep wide (build at 0 m) ++ ps
   parts-all j z =
       let a : j ≡ 0 = omega arith in
-      ap (λ (i : ℕ). keep wide (build (partAt starts lens) i (m - i))) a ∙ ap (λ (i : ℕ). keep wide (build (partAt starts lens) 0 i)) (sub-zero m)
+      ap (λ (i : ℕ). keep wide (build at i (m - i)) ++ ps) a ∙ ap (λ (i : ℕ). keep wide (build at 0 i) ++ ps) (sub-zero m)
 
-  parts-step : (j : ℕ) → 0 < j → j ≤ m → Parts (j - 1) ≡ cond (wide (At (j - 1))) (At (j - 1) ∷ Parts j) (Parts j)
-  unfolding keep partAt
-  parts-step j p q =
-      let k : j - 1 + 1 ≡ j = omega arith in
-      ap (keep wide) (build-step (partAt starts lens) (j - 1) m (omega arith))
-      ∙ ap (λ (i : ℕ). keep wide (partAt starts lens (j - 1) ∷ build (partAt starts lens) i (m - i))) k
+  module _ (j : ℕ) (left : 0 < j) (few : j ≤ m) (p : Part) (is-p : at (j - 1) ≡ p) where
+    parts-step : Parts (j - 1) ≡ cond (wide p) (p ∷ keep wide (build at j (m - j))) (keep wide (build at j (m - j))) ++ ps
+    unfolding keep
+    parts-step =
+        let k : j - 1 + 1 ≡ j = omega arith in
+        ap (λ (xs : List Part). keep wide xs ++ ps)
+        (build-step at (j - 1) m (omega arith) ∙ ap (λ (i : ℕ). at (j - 1) ∷ build at i (m - i)) k ∙ ap (λ (x : Part). x ∷ build at j (m - j)) is-p)
 
-  parts-more : (j : ℕ) → 0 < j → j ≤ m → 4 < getD lens (j - 1) 0 → Parts (j - 1) ≡ At (j - 1) ∷ Parts j
-  unfolding wide
-  parts-more j p q w = parts-step j p q ∙ rw (lt-ltb 4 (getD lens (j - 1) 0) w)
+    parts-more : wide p ≡ true → Parts (j - 1) ≡ p ∷ Parts j
+    parts-more w = parts-step ∙ rw w
 
-  parts-same : (j : ℕ) → 0 < j → j ≤ m → getD lens (j - 1) 0 ≤ 4 → Parts (j - 1) ≡ Parts j
-  unfolding wide
-  parts-same j p q w = parts-step j p q ∙ rw (le-ltb 4 (getD lens (j - 1) 0) w)
+    parts-same : wide p ≡ false → Parts (j - 1) ≡ Parts j
+    parts-same w = parts-step ∙ rw w
 
 -- a part that counts ends within 64 bits
-pub end-fits : (starts lens : List ℕ) (j from : ℕ) → Addable starts → Addable lens → from ≡ cond (ltb 4 (getD lens j 0)) (getD starts j 0) 0
-    → from + getD lens j 0 < 18446744073709551616
-end-fits starts lens j from low short is-from = omega (arith, low j, short j, is-from, counted (ltb 4 (getD lens j 0)))
+pub end-fits : (start len from : ℕ) → start < 68719476736 → len < 68719476736 → from ≡ cond (ltb 4 len) start 0 → from + len < 18446744073709551616
+end-fits start len from low short is-from = omega (arith, is-from, counted (ltb 4 len))
   where
-    counted : (b : Bool) → cond b (getD starts j 0) 0 ≤ getD starts j 0
+    counted : (b : Bool) → cond b start 0 ≤ start
     counted true = omega arith
     counted false = zero-le
+
+-- so does one of two LONGs
+pub long-fits : (x : ℕ) → x < 4294967296 → x < 68719476736
+long-fits x h = omega arith
 
 -- the two ends of a gap, as code computes them
 pub lower-in : (hi s from : ℕ) → ltb s from && ltb from hi ≡ true → from ≡ cond (ltb s from) (min hi from) hi
@@ -98,53 +97,83 @@ raise-out lo s from to h = go (ltb s from) refl
         let l : to ≤ lo = ltb-false _ _ k in
         omega arith
 
--- one turn of gap_of over part j - 1, which counts as starting at `from`
-pub gap-turn : (starts lens : List ℕ) (m n s j lo hi : ℕ) → 0 < j → j ≤ m → 8 ≤ s → Around s n (partsFrom starts lens m j) lo hi
-    → (from lo′ hi′ : ℕ) → from ≡ cond (ltb 4 (getD lens (j - 1) 0)) (getD starts (j - 1) 0) 0 → hi′ ≡ cond (ltb s from) (min hi from) hi
-    → lo′ ≡ cond (ltb s from) lo (max lo (from + getD lens (j - 1) 0)) → Around s n (partsFrom starts lens m (j - 1)) lo′ hi′
+-- one turn over part j - 1, which counts as starting at `from`
+turn : (at : ℕ → Part) (m : ℕ) (ps : List Part) (n s j lo hi : ℕ) → 0 < j → j ≤ m → Around s n (partsFrom at m ps j) lo hi
+    → (start len : ℕ) → at (j - 1) ≡ part start len → (from lo′ hi′ : ℕ) → from ≡ cond (ltb 4 len) start 0 → hi′ ≡ cond (ltb s from) (min hi from) hi
+    → lo′ ≡ cond (ltb s from) lo (max lo (from + len)) → Around s n (partsFrom at m ps (j - 1)) lo′ hi′
 unfolding wide
-gap-turn starts lens m n s j lo hi some-left few eight g from lo′ hi′ is-from is-hi is-lo = go (ltb 4 Len) refl (ltb s from) refl
+turn at m ps n s j lo hi left few g start len is-part from lo′ hi′ is-from is-hi is-lo = go (ltb 4 len) refl (ltb s from) refl
   where
-    First : ℕ
-    First = getD starts (j - 1) 0
-
-    Len : ℕ
-    Len = getD lens (j - 1) 0
-
-    go : (a : Bool) → ltb 4 Len ≡ a → (b : Bool) → ltb s from ≡ b → Around s n (partsFrom starts lens m (j - 1)) lo′ hi′
+    go : (a : Bool) → ltb 4 len ≡ a → (b : Bool) → ltb s from ≡ b → Around s n (partsFrom at m ps (j - 1)) lo′ hi′
     go false p b q =
-        let short : Len ≤ 4 = ltb-false _ _ p in
+        let short : len ≤ 4 = ltb-false _ _ p in
         let none : from ≡ 0 = is-from ∙ rw p in
         let low = g .low in
         let z : ltb s 0 ≡ false = le-ltb s 0 zero-le in
         let h : hi′ ≡ hi = is-hi ∙ rw (none, z) in
-        let l : lo′ ≡ lo = is-lo ∙ rw (none, z, zero-add) (most lo Len (omega arith)) in
-        rw (parts-same starts lens m j some-left few short, h, l) g
+        let l : lo′ ≡ lo = is-lo ∙ rw (none, z, zero-add) (most lo len (omega arith)) in
+        rw (parts-same at m ps j left few (part start len) is-part p, h, l) g
       where
         most : (x y : ℕ) → y ≤ x → max x y ≡ x
         most x y k = omega arith
     go true p true q =
-        let w : 4 < Len = ltb-true _ _ p in
-        let f : from ≡ First = is-from ∙ rw p in
-        let h : hi′ ≡ min hi First = is-hi ∙ rw (q, f) in
+        let f : from ≡ start = is-from ∙ rw p in
+        let h : hi′ ≡ min hi start = is-hi ∙ rw (q, f) in
         let l : lo′ ≡ lo = is-lo ∙ rw q in
-        let k : s < First = subst (λ (x : ℕ). s < x) f (ltb-true _ _ q) in
-        rw (parts-more starts lens m j some-left few w, h, l) (around-behind s n (part First Len) (partsFrom starts lens m j) lo hi g k p)
+        let k : s < start = subst (λ (x : ℕ). s < x) f (ltb-true _ _ q) in
+        rw (parts-more at m ps j left few (part start len) is-part p, h, l) (around-behind s n (part start len) (partsFrom at m ps j) lo hi g k p)
     go true p false q =
-        let w : 4 < Len = ltb-true _ _ p in
-        let f : from ≡ First = is-from ∙ rw p in
+        let f : from ≡ start = is-from ∙ rw p in
         let h : hi′ ≡ hi = is-hi ∙ rw q in
-        let l : lo′ ≡ max lo (First + Len) = is-lo ∙ rw (q, f) in
-        let k : First ≤ s = subst (λ (x : ℕ). x ≤ s) f (ltb-false _ _ q) in
-        rw (parts-more starts lens m j some-left few w, h, l) (around-before s n (part First Len) (partsFrom starts lens m j) lo hi g k)
+        let l : lo′ ≡ max lo (start + len) = is-lo ∙ rw (q, f) in
+        let k : start ≤ s = subst (λ (x : ℕ). x ≤ s) f (ltb-false _ _ q) in
+        rw (parts-more at m ps j left few (part start len) is-part p, h, l) (around-before s n (part start len) (partsFrom at m ps j) lo hi g k)
 
-pub gap-start : (starts lens : List ℕ) (m n s : ℕ) → 8 ≤ s → Around s n (partsFrom starts lens m m) 8 n
-gap-start starts lens m n s h = rw (parts-none starts lens m) (around-none s n h)
+-- ---- gap_of: the parts of two columns, with none behind them
 
-pub gap-end : (starts lens : List ℕ) (m n s j lo hi : ℕ) → j ≤ 0 → Around s n (partsFrom starts lens m j) lo hi
+pub gap-start : (starts lens : List ℕ) (m n s : ℕ) → 8 ≤ s → Around s n (partsFrom (partAt starts lens) m [] m) 8 n
+gap-start starts lens m n s h = rw (parts-none (partAt starts lens) m []) (around-none s n h)
+
+pub gap-turn : (starts lens : List ℕ) (m n s j lo hi : ℕ) → 0 < j → j ≤ m → Around s n (partsFrom (partAt starts lens) m [] j) lo hi
+    → (from lo′ hi′ : ℕ) → from ≡ cond (ltb 4 (getD lens (j - 1) 0)) (getD starts (j - 1) 0) 0 → hi′ ≡ cond (ltb s from) (min hi from) hi
+    → lo′ ≡ cond (ltb s from) lo (max lo (from + getD lens (j - 1) 0)) → Around s n (partsFrom (partAt starts lens) m [] (j - 1)) lo′ hi′
+unfolding partAt
+gap-turn starts lens m n s j lo hi left few g = turn (partAt starts lens) m [] n s j lo hi left few g _ _ refl
+
+pub gap-end : (starts lens : List ℕ) (m n s j lo hi : ℕ) → j ≤ 0 → Around s n (partsFrom (partAt starts lens) m [] j) lo hi
     → Found s n (partsOf starts lens m) (record { lo = lo; hi = hi })
+unfolding partsOf
 gap-end starts lens m n s j lo hi z g =
-    found-gap s n (partsOf starts lens m) lo hi (subst (λ (ps : List Part). Around s n ps lo hi) (parts-all starts lens m j z) g)
+    found-gap s n (partsOf starts lens m) lo hi
+    (subst (λ (ps : List Part). Around s n ps lo hi) (parts-all (partAt starts lens) m [] j z ∙ append-nil _) g)
+
+-- ---- narrow: the parts that a run of entries names, in front of those of a gap that was found
+
+module _ (big : Bool) (s : List ℕ) (many byte : ℕ) (g : Gap) where
+  -- that gap with the parts that the entries from j on name
+  pub record Narrowed (j lo hi : ℕ) : Type 0 where
+    pub around : (n : ℕ) (ps : List Part) → Found byte n ps g → Around byte n (partsFrom (namedAt big s) many ps j) lo hi
+
+  pub narrow-start : Narrowed many (g .lo) (g .hi)
+  narrow-start = record { around = λ n ps f. rw (parts-none (namedAt big s) many ps) (gap-found byte n ps g f) }
+
+  module _ (j lo hi : ℕ) (seen : Narrowed j lo hi) where
+    pub narrow-turn : 0 < j → j ≤ many → (start len : ℕ) → start ≡ num big 4 s (12 * (j - 1) + 8) → len ≡ num big 4 s (12 * (j - 1) + 4)
+        → (from lo′ hi′ : ℕ) → from ≡ cond (ltb 4 len) start 0 → hi′ ≡ cond (ltb byte from) (min hi from) hi
+        → lo′ ≡ cond (ltb byte from) lo (max lo (from + len)) → Narrowed (j - 1) lo′ hi′
+    unfolding namedAt
+    narrow-turn left few start len is-start is-len from lo′ hi′ is-from is-hi is-lo =
+        record {
+          around = λ n ps f.
+              turn (namedAt big s) many ps n byte j lo hi left few (seen .around n ps f) start len
+              (sym (λ i. part (is-start i) (is-len i))) from lo′ hi′ is-from is-hi is-lo;
+        }
+
+    pub narrow-end : j ≤ 0 → (n : ℕ) (ps : List Part) → Found byte n ps g → Found byte n (namedParts big s many ++ ps) (record { lo = lo; hi = hi })
+    unfolding namedParts
+    narrow-end z n ps f =
+        found-gap byte n (namedParts big s many ++ ps) lo hi
+        (subst (λ (xs : List Part). Around byte n xs lo hi) (parts-all (namedAt big s) many ps j z) (seen .around n ps f))
 
 -- ---- is_out: the ends of a place as counted from lo, in 64 bits
 

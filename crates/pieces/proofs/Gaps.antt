@@ -13,6 +13,7 @@ use Rattle.paper.specs.Pieces.{part, shares}
 use Rattle.paper.specs.declared.Part.{Part}
 use Rattle.paper.proofs.Laws.{and-eq, and-both, or-false}
 use Rattle.pieces.specs.Gaps.{wide, clear, Found}
+use Rattle.pieces.specs.declared.Gap.{Gap}
 
 -- clear by one of three reasons
 clear-empty : (lo hi : ℕ) (p : Part) → p .len ≡ 0 → clear lo hi p ≡ true
@@ -83,20 +84,20 @@ clear-free lo hi s l (p ∷ ps) a b h =
 
 -- ---- the gap around byte s of a file of n bytes
 
--- What is known of it when the parts ps were seen: no part has a byte in it where s does not lie below it; a place from s on that leaves it, or
--- that starts below it, shares a byte with a part.
+-- What is known of it when the parts ps were seen: no part has a byte in it where s does not lie below it; a place from s on, with bytes and in
+-- the file, that leaves it or starts below it shares a byte with a part.
 pub record Around (s n : ℕ) (ps : List Part) (lo hi : ℕ) : Type 0 where
   pub low : 8 ≤ lo
   pub high : hi ≤ n
   pub clean : lo ≤ s → all (clear lo hi) ps ≡ true
-  pub held : s < lo → (l : ℕ) → 0 < l → some (shares (part s l)) ps ≡ true
-  pub reach : (l : ℕ) → hi < s + l → s + l ≤ n → some (shares (part s l)) ps ≡ true
+  pub held : s < lo → (l : ℕ) → 0 < l → s + l ≤ n → some (shares (part s l)) ps ≡ true
+  pub reach : (l : ℕ) → 0 < l → hi < s + l → s + l ≤ n → some (shares (part s l)) ps ≡ true
 
 module _ (s n : ℕ) where
   pub around-none : 8 ≤ s → Around s n [] 8 n
   unfolding all
   around-none h =
-      record { low = omega arith; high = omega arith; clean = λ a. refl; held = λ a l b. absurd (omega arith); reach = λ l a b. absurd (omega arith) }
+      record { low = omega arith; high = omega arith; clean = λ a. refl; held = λ a l b c. absurd (omega arith); reach = λ l a b c. absurd (omega arith) }
 
   module _ (p : Part) (ps : List Part) (lo hi : ℕ) (g : Around s n ps lo hi) where
     -- a part behind s
@@ -109,18 +110,18 @@ module _ (s n : ℕ) where
           clean = λ a.
               and-both (clear lo (min hi (p .start)) p) _ (clear-behind lo (min hi (p .start)) p (omega arith))
               (all-less lo hi lo (min hi (p .start)) ps (omega arith) (omega arith) (g .clean a));
-          held = λ a l c. rw (g .held a l c) (or-true (shares (part s l) p));
+          held = λ a l c d. rw (g .held a l c d) (or-true (shares (part s l) p));
           reach = reach-behind;
         }
       where
         long : 4 < p .len
         long = ltb-true _ _ w
 
-        reach-behind : (l : ℕ) → min hi (p .start) < s + l → s + l ≤ n → shares (part s l) p || some (shares (part s l)) ps ≡ true
-        reach-behind l a c = go (ltb hi (s + l)) refl
+        reach-behind : (l : ℕ) → 0 < l → min hi (p .start) < s + l → s + l ≤ n → shares (part s l) p || some (shares (part s l)) ps ≡ true
+        reach-behind l d a c = go (ltb hi (s + l)) refl
           where
             go : (t : Bool) → ltb hi (s + l) ≡ t → shares (part s l) p || some (shares (part s l)) ps ≡ true
-            go true e = rw (g .reach l (ltb-true _ _ e) c) (or-true (shares (part s l) p))
+            go true e = rw (g .reach l d (ltb-true _ _ e) c) (or-true (shares (part s l) p))
             go false e =
                 let h : s + l ≤ hi = ltb-false _ _ e in
                 let k = long in
@@ -137,14 +138,14 @@ module _ (s n : ℕ) where
               and-both (clear (max lo (p .start + p .len)) hi p) _ (clear-before (max lo (p .start + p .len)) hi p (omega arith))
               (all-less lo hi (max lo (p .start + p .len)) hi ps (omega arith) (omega arith) (g .clean (omega arith)));
           held = held-before;
-          reach = λ l a c. rw (g .reach l a c) (or-true (shares (part s l) p));
+          reach = λ l d a c. rw (g .reach l d a c) (or-true (shares (part s l) p));
         }
       where
-        held-before : s < max lo (p .start + p .len) → (l : ℕ) → 0 < l → shares (part s l) p || some (shares (part s l)) ps ≡ true
-        held-before a l c = go (ltb s lo) refl
+        held-before : s < max lo (p .start + p .len) → (l : ℕ) → 0 < l → s + l ≤ n → shares (part s l) p || some (shares (part s l)) ps ≡ true
+        held-before a l c d = go (ltb s lo) refl
           where
             go : (t : Bool) → ltb s lo ≡ t → shares (part s l) p || some (shares (part s l)) ps ≡ true
-            go true e = rw (g .held (ltb-true _ _ e) l c) (or-true (shares (part s l) p))
+            go true e = rw (g .held (ltb-true _ _ e) l c d) (or-true (shares (part s l) p))
             go false e =
                 let h : lo ≤ s = ltb-false _ _ e in
                 rw (shares-yes s l p (omega arith))
@@ -155,9 +156,20 @@ module _ (s n : ℕ) where
       record {
         low = g .low;
         high = g .high;
-        clash = λ l a b c. ⊎-elim (λ e. g .held (ltb-true _ _ e) l a) (λ e. g .reach l (ltb-true _ _ e) b) (or-cases (ltb s lo) _ c);
+        clash = λ l a b c. ⊎-elim (λ e. g .held (ltb-true _ _ e) l a b) (λ e. g .reach l a (ltb-true _ _ e) b) (or-cases (ltb s lo) _ c);
         free = λ l c.
             let o = or-false (ltb s lo) _ c in
             clear-free lo hi s l ps (ltb-false _ _ (o .0)) (ltb-false _ _ (o .1)) (g .clean (ltb-false _ _ (o .0)));
         clean = λ t. g .clean (ltb-false _ _ t);
+      }
+
+  -- and back: further parts may be seen after them
+  pub gap-found : (ps : List Part) (g : Gap) → Found s n ps g → Around s n ps (g .lo) (g .hi)
+  gap-found ps g f =
+      record {
+        low = f .low;
+        high = f .high;
+        clean = λ a. f .clean (le-ltb s (g .lo) a);
+        held = λ a l b c. f .clash l b c (rw (lt-ltb s (g .lo) a));
+        reach = λ l b a c. f .clash l b c (rw (lt-ltb (g .hi) (s + l) a) (or-true (ltb s (g .lo))));
       }

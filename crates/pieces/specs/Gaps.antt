@@ -1,4 +1,5 @@
--- The gaps of a reading list that is lent as two columns, the starts of its parts and their lengths. Assumes nothing.
+-- The gaps of a reading list that is lent as two columns, the starts of its parts and their lengths, and as a run of further entries that name
+-- parts. Assumes nothing.
 use Prim.Native.Nat.{ℕ, _+_, _-_, _*_, _≤_, _<_}
 use mathlib.Core.Path.{_≡_}
 use mathlib.Core.Bool.{Bool, true, false, _||_}
@@ -28,6 +29,14 @@ wide p = ltb 4 (p .len)
 
 unfoldable pub partsOf : List ℕ → List ℕ → ℕ → List Part
 partsOf starts lens m = keep wide (build (partAt starts lens) 0 m)
+
+-- the part that entry j of a run of entries of BYTEs names: its count is its length, and its offset stands behind it
+unfoldable pub namedAt : Bool → List ℕ → ℕ → Part
+namedAt big s j = part (num big 4 s (12 * j + 8)) (num big 4 s (12 * j + 4))
+
+-- those of more than 4 bytes, of so many entries
+unfoldable pub namedParts : Bool → List ℕ → ℕ → List Part
+namedParts big s many = keep wide (build (namedAt big s) 0 many)
 
 -- the places from i on, of k
 unfoldable pub fromPlace : Bool → ℕ → List ℕ → ℕ → List ℕ → ℕ → ℕ → List Piece

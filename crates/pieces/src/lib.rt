@@ -1,14 +1,16 @@
 // Where the places of a picture may lie: rules 13 and 14 in one pass, each offset and byte count fetched once. The places are any two runs of
-// numbers, the reading list any two columns, so that every kind of picture is judged by this one pass.
+// numbers, the reading list any two columns and a run of further entries, so that every kind of picture is judged by this one pass.
 ghost use mathlib.Core.Path.{_≡_};
 ghost use mathlib.Core.Bool.{cond, _||_};
-ghost use Prim.Native.Nat.{_+_, _*_, _≤_, _<_, max, min};
+ghost use mathlib.Core.List.{List, _++_};
+ghost use Prim.Native.Nat.{ℕ, _+_, _*_, _≤_, _<_, max, min};
 ghost use lib.Dec.{ltb, eqb};
 ghost use lib.ListN.{length};
 ghost use Rattle.order.specs.Width.{width};
 ghost use Rattle.paper.specs.Outcome.{orElse, verdict};
 ghost use Rattle.paper.specs.Pieces.{placesOf, rule13};
-ghost use Rattle.pieces.specs.Gaps.{Addable, fromPlace, partsOf, Found, Skipped, placesJudged};
+ghost use Rattle.paper.specs.declared.Part.{Part};
+ghost use Rattle.pieces.specs.Gaps.{Addable, fromPlace, partsOf, namedParts, Found, Skipped, placesJudged};
 use paper::Verdict;
 
 // A gap of the reading list around a byte: no byte from lo up to hi is on it. Where the byte itself is on the list, it lies below lo.
@@ -72,6 +74,25 @@ fn gap_of(starts: &[usize], lens: &[usize], m: usize, n: usize, byte: usize) -> 
         j -= 1;
         let len = lens[j];
         let from = counted(starts[j], len);
+        hi = lowered(hi, byte, from);
+        lo = raised(lo, byte, from, from + len);
+    }
+    Gap { lo, hi }
+}
+
+// The gap around a byte with the parts that `many` further entries name: each is 12 bytes, of type BYTE, with its count at byte 4 and its offset
+// at byte 8.
+fn narrow(g: Gap, byte: usize, further: &[u8], big: bool, many: usize) -> Gap
+    requires { ⌜ 12 * many ≤ length (now further) ⌝ }
+    ensures { λ r. ⌜ ((n : ℕ) (ps : List Part) → Found byte n ps g → Found byte n (namedParts big (now (further .entry)) many ++ ps) r) ⌝ }
+{
+    let mut lo = g.lo;
+    let mut hi = g.hi;
+    let mut j = many;
+    while 0 < j {
+        j -= 1;
+        let len = order::long(further, big, 12 * j + 4);
+        let from = counted(order::long(further, big, 12 * j + 8), len);
         hi = lowered(hi, byte, from);
         lo = raised(lo, byte, from, from + len);
     }
@@ -190,7 +211,8 @@ fn after_clash(
     }
 }
 
-// Rules 13 and 14 over k places: their offsets and byte counts are LONGs (wide) or SHORTs in two runs, and the reading list is m parts.
+// Rules 13 and 14 over k places: their offsets and byte counts are LONGs (wide) or SHORTs in two runs, and the reading list is m parts and those
+// that `many` further entries of type BYTE name.
 pub fn judge_places(
     offsets: &[u8],
     wideoffsets: bool,
@@ -202,9 +224,11 @@ pub fn judge_places(
     starts: &[usize],
     lens: &[usize],
     m: usize,
+    further: &[u8],
+    many: usize,
 ) -> Verdict
-    requires { ⌜ (k < 4294967296) × (width wideoffsets * k ≤ length (now offsets)) × (width widebytecounts * k ≤ length (now bytecounts)) × (m ≤ length (now starts)) × (m ≤ length (now lens)) × Addable (now starts) × Addable (now lens) × (8 ≤ n) × (n ≤ 4294967295) ⌝ }
-    ensures { λ r. ⌜ r ≡ placesJudged n (partsOf (now (starts .entry)) (now (lens .entry)) m) (placesOf big (width wideoffsets) (now (offsets .entry)) (width widebytecounts) (now (bytecounts .entry)) k) ⌝ }
+    requires { ⌜ (k < 4294967296) × (width wideoffsets * k ≤ length (now offsets)) × (width widebytecounts * k ≤ length (now bytecounts)) × (m ≤ length (now starts)) × (m ≤ length (now lens)) × Addable (now starts) × Addable (now lens) × (8 ≤ n) × (n ≤ 4294967295) × (12 * many ≤ length (now further)) ⌝ }
+    ensures { λ r. ⌜ r ≡ placesJudged n (namedParts big (now (further .entry)) many ++ partsOf (now (starts .entry)) (now (lens .entry)) m) (placesOf big (width wideoffsets) (now (offsets .entry)) (width widebytecounts) (now (bytecounts .entry)) k) ⌝ }
 {
     if k == 0 {
         return Verdict {
@@ -222,7 +246,8 @@ pub fn judge_places(
                 place: at as u32,
             };
         }
-        let g = gap_of(starts, lens, m, n, start);
+        let known = gap_of(starts, lens, m, n, start);
+        let g = narrow(known, start, further, big, many);
         if (start < g.lo) | (g.hi < start + len) {
             return after_clash(
                 offsets,

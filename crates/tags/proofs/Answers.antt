@@ -1,28 +1,34 @@
 -- One law for each answer of rules 27 and 9 to 12. Assumes nothing.
-use Prim.Native.Nat.{ℕ, _+_, _-_, _<_}
+use Prim.Native.Nat.{ℕ, _+_, _-_, _*_, _≤_, _<_}
 use mathlib.Core.Path.{_≡_, refl, sym, ap, ap₂, _∙_}
 use mathlib.Core.Bool.{Bool, true, false, cond, not, _&&_, _||_}
-use mathlib.Core.List.{List}
+use mathlib.Core.List.{List, [], _∷_}
 use native.Mathlib.Nat.{add-sub-cancel-left}
+use native.Mathlib.Omega.{arith}
 use lib.Dec.{lit<}
-use lib.ListN.{getD}
+use lib.ListN.{length, getD}
 use Rattle.paper.specs.Bytes.{run}
-use Rattle.paper.specs.Outcome.{breaks, first, verdict}
+use Rattle.paper.specs.Outcome.{breaks, firstOf, first, verdict}
+use Rattle.paper.specs.Tests.{some}
 use Rattle.paper.specs.declared.Outcome.{Outcome}
 use Rattle.paper.specs.declared.Outcome.the-variants.{Kept as kept, Broken as broken}
-use Rattle.paper.specs.Tags.{table, Held, countOf, tiled, offsetsTag, byteCountsTag, rule27, rule9, rule10, rule11, rule12}
-use Rattle.paper.proofs.Laws.{or-false}
+use Rattle.paper.specs.Tags.{table, Held, countOf, tiled, offsetsTag, byteCountsTag, fitsLine, rule27, rule9, rule10, rule11, rule12}
+use Rattle.paper.proofs.Laws.{or-false, run-length-in}
 use Rattle.tags.specs.declared.Numbers.{Numbers}
 use Rattle.tags.specs.declared.Bits.{Bits}
 use Rattle.tags.specs.declared.Tagged.{Tagged}
-use Rattle.tags.specs.Slots.{lineAt, tagAt, stripSlots, tileSlots, someAt, offsetsSlot, byteCountsSlot, nineFrom, tenFrom, Chosen}
+use Rattle.tags.specs.Slots.{lineAt, tagAt, stripSlots, tileSlots, someAt, offsetsSlot, byteCountsSlot, nineFrom, tenFrom, someMisfit, Chosen}
 use Rattle.tags.specs.Numbers.{numbersOf, bitsOf, bitsIn, numbersIn, FourBytes, elevenOf, Countable, twelveOf}
 use Rattle.paper.specs.Judge.{tableRules}
-use Rattle.tags.specs.Tagging.{heldAt, viewOf, taggedBy, taggedOf, Ready, Fitting}
+use Rattle.layout.specs.Repeats.{laterTexts}
+use Rattle.layout.specs.declared.Further.{Further}
+use Rattle.layout.proofs.Repeats.{FurtherHolds, further-holds}
+use Rattle.tags.specs.Tagging.{entriesAt, heldAt, viewOf, taggedBy, taggedOf, Ready, Behind, Fitting}
 use Rattle.tags.proofs.Slots.{strips-are, tiles-are, nine-is, ten-is}
 use Rattle.tags.proofs.Rules.{eleven-is, twelve-is}
 use Rattle.tags.proofs.Fetched.{slotAt, numbers-are, bits-are}
 use Rattle.tags.proofs.Kept.{eleven-gives}
+use Rattle.tags.proofs.Later.{later-misfits}
 
 abbrev pub refusedAs : ℕ → ℕ → Tagged
 refusedAs k p = record { verdict = verdict k p; width = 0; length = 0; tiled = false }
@@ -43,6 +49,20 @@ none-else starts s t m is-s is-t is-m h = go t is-t (sym is-m ∙ h)
 pub chosen : {starts : List ℕ} {s t m : Bool} {o : Outcome} → s ≡ someAt stripSlots starts → t ≡ someAt tileSlots starts
     → m ≡ (s && t) || (not s && not t) → m ≡ false → o ≡ nineFrom 0 t starts → o ≡ kept → Chosen t starts
 chosen is-s is-t is-m alike is-o h = record { none-else = none-else _ _ _ _ is-s is-t is-m alike; nine = sym is-o ∙ h }
+
+-- the further entries of 50909 lie in the file
+pub later-holds : {f : List ℕ} {big : Bool} {at c : ℕ} {typs counts starts lens : List ℕ} {g : Further} → Ready f big at c typs counts starts lens
+    → Behind f big at c g → FurtherHolds f big at c g
+unfolding entriesAt
+later-holds {f} {big} {at} {c} r w = further-holds f big at c (r .whole) (r .few) (w .six) (w .is)
+
+-- what the test of them asks
+pub later-lent : {f : List ℕ} {big : Bool} {at c : ℕ} {typs counts starts lens : List ℕ} {g : Further} → Ready f big at c typs counts starts lens
+    → Behind f big at c g → {later : List ℕ} → later ≡ run f (g .start) (12 * g .many) → (12 * g .many ≤ length later) × (g .many ≤ 1024)
+later-lent {f} {g = g} r w e =
+    let h = later-holds r w in
+    let l = ap length e ∙ run-length-in f (g .start) (12 * g .many) (h .room) in
+    (omega arith, h .few)
 
 -- which families are present, whether that breaks rule 27, and then what rules 9 and 10 say
 module _ {f : List ℕ} {big : Bool} {at c : ℕ} {typs counts starts lens : List ℕ} (r : Ready f big at c typs counts starts lens)
@@ -71,16 +91,32 @@ module _ {f : List ℕ} {big : Bool} {at c : ℕ} {typs counts starts lens : Lis
     unfolding taggedOf taggedBy viewOf tableRules first
     refused-nine h e = rw (e, mixed-kept, ← nine-same, h)
 
-    module _ (h : o ≡ kept) {u : Outcome} (is-u : u ≡ tenFrom 0 typs counts starts) where
-      ten-same : u ≡ rule10 table (heldAt f big at c)
-      ten-same = is-u ∙ ten-is f big at c typs counts starts lens r
+    module _ (h : o ≡ kept) {u : Outcome} (is-u : u ≡ tenFrom 0 typs counts starts) {g : Further} (w : Behind f big at c g) where
+      -- the entries of 50909 behind the first
+      abbrev Misfit : Bool
+      Misfit = some (λ e. not (fitsLine (lineAt 20) e)) (laterTexts (entriesAt f big at c))
+
+      ten-same : firstOf (u ∷ breaks Misfit 50909 ∷ []) ≡ rule10 table (heldAt f big at c)
+      ten-same = ap (λ (x : Outcome). firstOf (x ∷ breaks Misfit 50909 ∷ [])) is-u ∙ ten-is f big at c typs counts starts lens r (w .six)
 
       pub refused-ten : {x : Tagged} {p : ℕ} → u ≡ broken p → x ≡ refusedAs 10 p → x ≡ taggedOf (viewOf f big at c)
-      unfolding taggedOf taggedBy viewOf tableRules first
-      refused-ten g e = rw (e, mixed-kept, ← nine-same, h, ← ten-same, g)
+      unfolding taggedOf taggedBy viewOf tableRules first firstOf
+      refused-ten k e = rw (e, mixed-kept, ← nine-same, h, ← ten-same, k)
 
-      pub fitting : u ≡ kept → Fitting f big at c t typs counts starts lens
-      fitting g = record { ready = r; tiled-is = t-same; twenty-seven = mixed-kept; nine = sym nine-same ∙ h; ten = sym ten-same ∙ g }
+      module _ (k : u ≡ kept) {later : List ℕ} (is-later : later ≡ run f (g .start) (12 * g .many)) {n : Bool} (is-n : n ≡ someMisfit big later 0 (g .many)) where
+        misfit-same : n ≡ Misfit
+        unfolding entriesAt
+        misfit-same = is-n ∙ ap (λ (s : List ℕ). someMisfit big s 0 (g .many)) is-later ∙ later-misfits big (g .start) (g .many) (run f (g .start) (12 * g .many)) (later-holds r w .are)
+
+        pub refused-later : {x : Tagged} → n ≡ true → x ≡ refusedAs 10 50909 → x ≡ taggedOf (viewOf f big at c)
+        unfolding taggedOf taggedBy viewOf tableRules first firstOf
+        refused-later b e = rw (e, mixed-kept, ← nine-same, h, ← ten-same, k, ← misfit-same, b)
+
+        pub fitting : n ≡ false → Fitting f big at c t typs counts starts lens
+        unfolding firstOf
+        fitting b =
+            let ten : rule10 table (heldAt f big at c) ≡ kept = sym ten-same ∙ rw (k, ← misfit-same, b) in
+            record { ready = r; tiled-is = t-same; twenty-seven = mixed-kept; nine = sym nine-same ∙ h; ten = ten }
 
 -- the numbers and the bits that were fetched, and what rule 11 says of them
 module _ {f : List ℕ} {big : Bool} {at c : ℕ} {t : Bool} {typs counts starts lens : List ℕ} (w : Fitting f big at c t typs counts starts lens)

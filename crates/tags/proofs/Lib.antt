@@ -8,3 +8,4 @@ pub mod Fetched
 pub mod Kept
 pub mod Answers
 pub mod Accepted
+pub mod Later

@@ -17,7 +17,7 @@ use Rattle.paper.specs.Tags.{Line, any, sixteens, table, Held, find, has, count
 use Rattle.paper.specs.Tags.{offsetsTag, byteCountsTag, pieceCount, lacks, fitsLine, disallowed, rule27, rule9, rule10, rule11, rule12}
 use Rattle.paper.proofs.Laws.{and-eq, breaks-kept, kept-all}
 use Rattle.paper.proofs.Kept.{among, has-none}
-use Rattle.paper.proofs.Bounds.{noLine, fits-line}
+use Rattle.paper.proofs.Bounds.{noLine, table-named, fits-line}
 use Rattle.tags.specs.Slots.{lineAt, tagAt}
 use Rattle.tags.specs.Numbers.{numbersOf, bitsOf, elevenOf, countOfPieces, twelveOf}
 
@@ -39,7 +39,7 @@ unfolding tagAt lineAt fitsLine table
 lined hs ten k h p =
     let l : Line = getD table k noLine in
     let n = find (getD table k noLine .tag) hs .entry .count in
-    let a = and-eq (eqb (find (getD table k noLine .tag) hs .entry .typ) (l .type) || eqb (find (getD table k noLine .tag) hs .entry .typ) (l .other)) _ (fits-line table hs ten k h p) in
+    let a = and-eq (eqb (find (getD table k noLine .tag) hs .entry .typ) (l .type) || eqb (find (getD table k noLine .tag) hs .entry .typ) (l .other)) _ (fits-line table table-named hs ten k h p) in
     let b = and-eq (leb (l .least) n) (leb n (l .most)) (a .1) in
     record { present = p; kind = a .0; low = leb-true _ _ (b .0); high = leb-true _ _ (b .1) }
 

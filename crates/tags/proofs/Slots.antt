@@ -2,26 +2,28 @@
 -- A tag is present exactly where its start is not 0. Assumes nothing.
 use Prim.Native.Nat.{ℕ, zero, suc, _+_, _-_, _*_, _≤_, _<_}
 use mathlib.Core.Path.{_≡_, refl, sym, ap, ap₂, _∙_, subst}
-use mathlib.Core.Bool.{Bool, true, false, cond, not, _&&_, Bool·not-not}
+use mathlib.Core.Bool.{Bool, true, false, cond, not, _&&_, _||_, Bool·not-not}
 use mathlib.Core.List.{List, [], _∷_, _++_, map, map-map}
-use native.Mathlib.Nat.{not-suc-le-zero, le-of-suc-le-suc, zero-mul}
+use native.Mathlib.Nat.{not-suc-le-zero, le-of-suc-le-suc, zero-mul, zero-add}
 use native.Mathlib.Omega.{arith}
 use lib.Dec.{eqb, ltb, lit<}
 use lib.ListN.{length, getD, List·getD-append, List·getD-map}
-use borrow.Author.Tests.{ne-eqb, eq-eqb, ltb-true, ltb-false, not-true}
-use Rattle.paper.specs.Bytes.{run, num}
-use Rattle.paper.specs.Outcome.{firstBad}
+use borrow.Author.Tests.{ne-eqb, eq-eqb, eqb-true, ltb-true, ltb-false, not-true}
+use Rattle.paper.specs.Bytes.{run, num, build}
+use Rattle.paper.specs.Outcome.{breaks, firstOf, firstBad, ordered}
 use Rattle.paper.specs.Tests.{all, some}
-use Rattle.paper.specs.Layout.{dirLen, sizeOf, typed, startOf, entryOf, entryAt, entries, rule7}
+use Rattle.paper.specs.Layout.{dirLen, sizeOf, typed, startOf, entryOf, entryAt, entries, behind, rule6, rule7}
 use Rattle.paper.specs.Tags.{Line, table, inTable, Held, find, absent, has, bytesOf, stripTags, hasSome, tiled, lacks, rule9, fitsLine, misfits, rule10}
 use Rattle.paper.specs.declared.Entry.{Entry}
 use Rattle.paper.specs.declared.Outcome.{Outcome}
 use Rattle.paper.specs.declared.Outcome.the-variants.{Kept as kept, Broken as broken}
-use Rattle.paper.proofs.Laws.{all-at, first-same}
+use Rattle.paper.proofs.Laws.{and-eq, or-false, kept-all, all-at, first-same, getD-build}
+use Rattle.paper.proofs.Several.{tagsOf, first-or-later, rises-behind, once, tags-held, later-held}
 use Rattle.paper.proofs.Loops.{findEntry, find-entry}
-use Rattle.paper.proofs.Bounds.{noLine, entry-inside}
+use Rattle.paper.proofs.Bounds.{noLine, named, table-named, entry-inside}
 use Rattle.layout.specs.Columns.{tags, fieldOf, column, typColumn, countColumn, startColumn, lenColumn}
 use Rattle.layout.specs.Finding.{placeIn}
+use Rattle.layout.specs.Repeats.{laterTexts}
 use Rattle.layout.proofs.Sizes.{len-of}
 use Rattle.layout.proofs.Finding.{Found, found-place}
 use Rattle.layout.proofs.Values.{place-within, found-bytes, tag-in}
@@ -136,11 +138,58 @@ first-slots bad test h =
     ∙ first-map bad (λ (l : Line). l .tag) lineAt slots
     ∙ first-same (λ (k : ℕ). bad (lineAt k)) test tagAt slots 0 (λ i l. h (getD slots i 0) (ltb-true _ 21 (all-at (λ (k : ℕ). ltb k 21) slots 0 slots-low i l))))
 
+-- a test of which the last line has one more
+or-none : (b : Bool) → b || false ≡ b
+or-none true = refl
+or-none false = refl
+
+first-late : (test : ℕ → Bool) (m : Bool) (z : ℕ) (ks : List ℕ) → all (λ k. not (eqb k z)) ks ≡ true
+    → firstBad (λ k. test k || (eqb k z && m)) tagAt (ks ++ (z ∷ [])) ≡ firstOf (firstBad test tagAt (ks ++ (z ∷ [])) ∷ breaks m (tagAt z) ∷ [])
+unfolding firstBad firstOf all
+first-late test m z [] h = rw (eq-eqb z z refl) (go (test z) m)
+  where
+    go : (t b : Bool) → cond (t || b) (broken (tagAt z)) kept ≡ firstOf (cond t (broken (tagAt z)) kept ∷ breaks b (tagAt z) ∷ [])
+    go true b = refl
+    go false true = refl
+    go false false = refl
+first-late test m z (k ∷ ks) h =
+    let n = and-eq (not (eqb k z)) _ h in
+    rw (not-true (eqb k z) (n .0), or-none (test k)) (go (test k) (first-late test m z ks (n .1)))
+  where
+    Whole : Outcome
+    Whole = firstBad (λ k. test k || (eqb k z && m)) tagAt (ks ++ (z ∷ []))
+
+    go : (t : Bool) → Whole ≡ firstOf (firstBad test tagAt (ks ++ (z ∷ [])) ∷ breaks m (tagAt z) ∷ [])
+        → cond t (broken (tagAt k)) Whole ≡ firstOf (cond t (broken (tagAt k)) (firstBad test tagAt (ks ++ (z ∷ []))) ∷ breaks m (tagAt z) ∷ [])
+    go true r = refl
+    go false r = r
+
+first-last : (test : ℕ → Bool) (m : Bool) → firstBad (λ k. test k || (eqb k 20 && m)) tagAt slots ≡ firstOf (firstBad test tagAt slots ∷ breaks m 50909 ∷ [])
+unfolding slots all tagAt lineAt table
+first-last test m = first-late test m 20 (0 ∷ 1 ∷ 2 ∷ 3 ∷ 4 ∷ 5 ∷ 6 ∷ 7 ∷ 8 ∷ 9 ∷ 10 ∷ 11 ∷ 12 ∷ 13 ∷ 14 ∷ 15 ∷ 16 ∷ 17 ∷ 18 ∷ 19 ∷ []) refl
+
 -- ---- a tag of the table
 
-tags-some : all (λ l. not (eqb 0 (l .tag))) table ≡ true
-unfolding all table
-tags-some = refl
+-- 50909 is the tag of the last line alone
+unfoldable untold : ℕ → Bool
+untold k = eqb k 20 || not (eqb (tagAt k) 50909)
+
+all-untold : all untold slots ≡ true
+unfolding all untold slots tagAt lineAt table
+all-untold = refl
+
+slots-built : slots ≡ build (λ i. i) 0 21
+unfolding slots build
+slots-built = refl
+
+slot-is : (k : ℕ) → k < 21 → getD slots k 0 ≡ k
+slot-is k h = ap (λ (ks : List ℕ). getD ks k 0) slots-built ∙ getD-build (λ i. i) 0 0 21 k h ∙ zero-add k
+
+no-text : (k : ℕ) → k < 21 → eqb k 20 ≡ false → eqb (tagAt k) 50909 ≡ false
+unfolding untold slots
+no-text k h e =
+    let u : untold k ≡ true = subst (λ (j : ℕ). untold j ≡ true) (slot-is k h) (all-at untold slots 0 all-untold k h) in
+    not-true _ (rw e at u)
 
 -- tag t, whose line is k, with its numbers in the columns
 pub record Slot (f : List ℕ) (hs : List Held) (typs counts starts lens : List ℕ) (t k : ℕ) : Type 0 where
@@ -186,8 +235,8 @@ module _ (f : List ℕ) (big : Bool) (at c : ℕ) (typs counts starts lens : Lis
   len-is k h = at-of k (r .lens-are) (column-front (λ (e : Entry). e .len) refl Es _ k h)
 
   tag-some : (k : ℕ) → k < 21 → eqb 0 (tagAt k) ≡ false
-  unfolding tagAt lineAt table
-  tag-some k h = not-true _ (all-at (λ (l : Line). not (eqb 0 (l .tag))) table noLine tags-some k h)
+  unfolding tagAt lineAt table named
+  tag-some k h = not-true _ (all-at named table noLine table-named k h)
 
   tag-listed : (k : ℕ) → k < 21 → inTable table (tagAt k) ≡ true
   unfolding tagAt lineAt tags
@@ -242,12 +291,48 @@ module _ (f : List ℕ) (big : Bool) (at c : ℕ) (typs counts starts lens : Lis
   unfolding nineFrom rule9
   nine-is = first-slots (lacks Hs) (lacksAt (tiled Hs) starts) lacks-at
 
-  misfits-at : (k : ℕ) → k < 21 → misfits Hs (lineAt k) ≡ misfitAt typs counts starts k
-  unfolding misfits misfitAt misfit unlike fitsLine tagAt
-  misfits-at k h =
-      let s = slot k h in
-      rw (s .present, s .typ, s .count)
+  -- ---- rule 10, where rule 6 is kept
 
-  pub ten-is : tenFrom 0 typs counts starts ≡ rule10 table Hs
-  unfolding tenFrom rule10
-  ten-is = first-slots (misfits Hs) (misfitAt typs counts starts) misfits-at
+  -- the entry that is found does not fit line k
+  found-misfits : (k : ℕ) → k < 21 → has (tagAt k) Hs && not (fitsLine (lineAt k) (find (tagAt k) Hs .entry)) ≡ misfitAt typs counts starts k
+  unfolding misfitAt misfit unlike fitsLine
+  found-misfits k h = let s = slot k h in rw (s .present, s .typ, s .count)
+
+  -- one of 50909 behind the first does not fit
+  abbrev Later : Bool
+  Later = some (λ e. not (fitsLine (lineAt 20) e)) (laterTexts (entriesAt f big at c))
+
+  -- 50909 stands in the last line
+  text-misfits : misfits Hs (lineAt 20) ≡ misfitAt typs counts starts 20 || Later
+  unfolding misfits tagAt lineAt table heldAt
+  text-misfits =
+      first-or-later 50909 refl (λ x. not (fitsLine (lineAt 20) (x .entry))) Hs
+      ∙ ap₂ (λ (a b : Bool). a || b) (found-misfits 20 (lit< tt)) (later-held table f 50909 (λ e. not (fitsLine (lineAt 20) e)) (entriesAt f big at c))
+
+  -- where the rule is kept all of them do
+  pub later-fit : rule10 table Hs ≡ kept → some (λ e. not (fitsLine (lineAt 20) e)) (laterTexts (entriesAt f big at c)) ≡ false
+  unfolding rule10 lineAt table
+  later-fit ten = or-false (misfitAt typs counts starts 20) Later (sym text-misfits ∙ kept-all (misfits Hs) _ table noLine ten 20 (lit< tt)) .1
+
+  module _ (six : rule6 (entriesAt f big at c) ≡ kept) where
+    tags-ordered : ordered behind (tagsOf Hs) ≡ kept
+    unfolding heldAt rule6
+    tags-ordered = ap (ordered behind) (tags-held table f (entriesAt f big at c)) ∙ six
+
+    misfits-at : (k : ℕ) → k < 21 → misfits Hs (lineAt k) ≡ misfitAt typs counts starts k || (eqb k 20 && Later)
+    unfolding misfits tagAt
+    misfits-at k h = go (eqb k 20) refl
+      where
+        go : (b : Bool) → eqb k 20 ≡ b → misfits Hs (lineAt k) ≡ misfitAt typs counts starts k || (b && Later)
+        go false e =
+            once behind (tagAt k) (rises-behind (tagAt k) (no-text k h e)) (tag-some k h) (λ x. not (fitsLine (lineAt k) (x .entry))) Hs tags-ordered
+            ∙ found-misfits k h
+            ∙ sym (or-none (misfitAt typs counts starts k))
+        go true e = subst (λ (j : ℕ). misfits Hs (lineAt j) ≡ misfitAt typs counts starts j || Later) (sym (eqb-true k 20 e)) text-misfits
+
+    -- of each tag the entry that is found, then the others of 50909
+    pub ten-is : firstOf (tenFrom 0 typs counts starts ∷ breaks Later 50909 ∷ []) ≡ rule10 table Hs
+    unfolding tenFrom rule10
+    ten-is =
+        sym (first-last (misfitAt typs counts starts) Later)
+        ∙ first-slots (misfits Hs) (λ k. misfitAt typs counts starts k || (eqb k 20 && Later)) misfits-at

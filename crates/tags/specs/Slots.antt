@@ -1,13 +1,14 @@
 -- Rules 27, 9 and 10 over columns of numbers, one for each tag of the table: where its value starts, its type and its count. Assumes nothing.
-use Prim.Native.Nat.{ℕ}
+use Prim.Native.Nat.{ℕ, _+_, _-_, _*_}
 use mathlib.Core.Path.{_≡_}
 use mathlib.Core.Bool.{Bool, false, cond, not, _&&_, _||_}
 use mathlib.Core.List.{List, [], _∷_}
 use lib.Dec.{eqb, leb}
 use lib.ListN.{getD, drop}
+use Rattle.paper.specs.Bytes.{num, build}
 use Rattle.paper.specs.Outcome.{firstBad}
 use Rattle.paper.specs.Tests.{some}
-use Rattle.paper.specs.Tags.{Line, line, no, any, table}
+use Rattle.paper.specs.Tags.{Line, line, BYTE, more, no, any, table}
 use Rattle.paper.specs.declared.Outcome.{Outcome}
 use Rattle.paper.specs.declared.Outcome.the-variants.{Kept as kept}
 
@@ -61,6 +62,14 @@ misfitAt typs counts starts k =
 
 unfoldable pub tenFrom : ℕ → List ℕ → List ℕ → List ℕ → Outcome
 tenFrom k typs counts starts = firstBad (misfitAt typs counts starts) tagAt (drop k slots)
+
+-- entry j of a run of entries of 50909 is not as its line says
+unfoldable pub misfitIn : Bool → List ℕ → ℕ → Bool
+misfitIn big s j = unlike (num big 2 s (12 * j + 2)) (num big 4 s (12 * j + 4)) BYTE BYTE 1 more
+
+-- one of them from entry j on, of so many, is not
+unfoldable pub someMisfit : Bool → List ℕ → ℕ → ℕ → Bool
+someMisfit big s j many = some (misfitIn big s) (build (λ i. i) j (many - j))
 
 -- rules 27 and 9 are kept: no tag of the other family is present, and each needed one is
 pub record Chosen (tiled : Bool) (starts : List ℕ) : Type 0 where

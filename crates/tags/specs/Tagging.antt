@@ -7,7 +7,7 @@ use mathlib.Core.List.{List, map}
 use lib.ListN.{length}
 use Rattle.paper.specs.Bytes.{run}
 use Rattle.paper.specs.Outcome.{first}
-use Rattle.paper.specs.Layout.{dirLen, entries, rule7}
+use Rattle.paper.specs.Layout.{dirLen, entries, rule6, rule7}
 use Rattle.paper.specs.Tag
 use Rattle.paper.specs.Tags.{table, Held, hold, valueOf, tiled, rule27, rule9, rule10}
 use Rattle.paper.specs.Judge.{View, tableRules}
@@ -16,6 +16,8 @@ use Rattle.paper.specs.declared.Entry.{Entry}
 use Rattle.paper.specs.declared.Outcome.the-variants.{Kept as kept}
 use Rattle.paper.specs.declared.Verdict.{Verdict}
 use Rattle.layout.specs.Columns.{typColumn, countColumn, startColumn, lenColumn}
+use Rattle.layout.specs.Repeats.{furtherOf}
+use Rattle.layout.specs.declared.Further.{Further}
 use Rattle.tags.specs.declared.Tagged.{Tagged}
 
 -- the entries of the directory at a place of the file, and these with their value bytes
@@ -54,6 +56,11 @@ pub record Ready (f : List ℕ) (big : Bool) (at c : ℕ) (typs counts starts le
   pub starts-are : starts ≡ startColumn at (entriesAt f big at c)
   pub lens-are : lens ≡ lenColumn c (entriesAt f big at c)
   pub seven : rule7 (length f) (entriesAt f big at c) ≡ kept
+
+-- rule 6 is kept, and r says where the further entries of 50909 stand
+pub record Behind (f : List ℕ) (big : Bool) (at c : ℕ) (r : Further) : Type 0 where
+  pub six : rule6 (entriesAt f big at c) ≡ kept
+  pub is : r ≡ furtherOf at (entriesAt f big at c)
 
 -- the same where rules 27, 9 and 10 are kept, and the picture is in tiles or not
 pub record Fitting (f : List ℕ) (big : Bool) (at c : ℕ) (t : Bool) (typs counts starts lens : List ℕ) : Type 0 where

@@ -8,9 +8,10 @@ ghost use lib.Dec.{eqb};
 ghost use lib.ListN.{length, getD};
 ghost use Rattle.paper.specs.Tests.{between, allows};
 ghost use Rattle.paper.specs.Tags.{sixteens, roundedUp};
-ghost use Rattle.tags.specs.Slots.{someAt, stripSlots, tileSlots, nineFrom, unlike, misfit, tenFrom, Chosen, offsetsSlot, byteCountsSlot};
+ghost use Rattle.tags.specs.Slots.{someAt, stripSlots, tileSlots, nineFrom, unlike, misfit, tenFrom, someMisfit, Chosen, offsetsSlot, byteCountsSlot};
 ghost use Rattle.tags.specs.Numbers.{depths, codings, bitsIn, shortIn, numberIn, numberIf, Single, SingleIf, Readable, numbersIn, FourBytes, Untiled, elevenOf, Countable, countOfPieces, twelveOf};
-ghost use Rattle.tags.specs.Tagging.{viewOf, taggedOf, Ready, Fitting};
+ghost use Rattle.tags.specs.Tagging.{viewOf, taggedOf, Ready, Behind, Fitting};
+use layout::Further;
 use paper::Outcome;
 use paper::Verdict;
 
@@ -189,6 +190,23 @@ fn is_misfit(
         return false;
     }
     is_unlike(typ, count, a, b, least, most)
+}
+
+// Whether one of so many entries of 50909 is not as its line says.
+fn has_misfit(entries: &[u8], big: bool, many: usize) -> bool
+    requires { ⌜ (12 * many ≤ length (now entries)) × (many ≤ 1024) ⌝ }
+    ensures { λ r. ⌜ r ≡ someMisfit big (now (entries .entry)) 0 many ⌝ }
+{
+    let mut j = 0;
+    while j < many {
+        let typ = order::short(entries, big, 12 * j + 2);
+        let count = order::long(entries, big, 12 * j + 4);
+        if is_unlike(typ, count, BYTE, BYTE, 1, MORE) {
+            return true;
+        }
+        j += 1;
+    }
+    false
 }
 
 // Rule 10 from tag 33550 on, where 34735 is present.
@@ -553,7 +571,7 @@ fn judge_values(
     }
 }
 
-// Rules 27 and 9 to 12.
+// Rules 27 and 9 to 12. The columns have the first entry of each tag; 50909 may have further ones.
 pub fn judge_tags(
     file: &[u8],
     big: bool,
@@ -563,8 +581,9 @@ pub fn judge_tags(
     counts: &[usize; 21],
     starts: &[usize; 23],
     lens: &[usize; 23],
+    further: Further,
 ) -> Tagged
-    requires { ⌜ Ready (now file) big at c (now typs) (now counts) (now starts) (now lens) ⌝ }
+    requires { ⌜ Ready (now file) big at c (now typs) (now counts) (now starts) (now lens) × Behind (now file) big at c further ⌝ }
     ensures { λ r. ⌜ r ≡ taggedOf (viewOf (now (file .entry)) big at c) ⌝ }
 {
     let tiled = has_tiles(starts);
@@ -578,6 +597,10 @@ pub fn judge_tags(
     let ten = fitting_lines(typs, counts, starts, tiled);
     if let Outcome::Broken(place) = ten {
         return refused(10, place);
+    }
+    let later = layout::value(file, further.start, 12 * further.many);
+    if has_misfit(later, big, further.many) {
+        return refused(10, 50909);
     }
     judge_values(file, big, at, c, tiled, typs, counts, starts, lens)
 }

@@ -1,8 +1,8 @@
-// The citation of a key and the metadata text of a file: where they stand, by value, and as parts of what was lent, without a copy.
+// The citation of a key and the metadata texts of a file: where they stand, by value, and as parts of what was lent, without a copy.
 ghost use mathlib.Core.Path.{_≡_};
 ghost use mathlib.Core.Bool.{cond};
 ghost use mathlib.Core.List.{[]};
-ghost use Prim.Native.Nat.{_+_, _*_, _≤_};
+ghost use Prim.Native.Nat.{ℕ, _+_, _*_, _≤_, _<_};
 ghost use lib.Dec.{eqb};
 ghost use lib.ListN.{length};
 ghost use Rattle.paper.specs.Bytes.{build};
@@ -100,9 +100,41 @@ pub fn citation<'a>(file: &'a [u8], key: u32, verdict: &mut u32, place: &mut u32
     layout::value(file, c.start, c.len)
 }
 
-// Where the metadata text stands, with so many bytes of outside text lent beside the file: the file's own text prevails.
-pub fn text(file: &[u8], outside: usize) -> Text
-    ensures { λ r. ⌜ (r ≡ textOf (now (file .entry)) outside) × (r .start + r .len ≤ cond (eqb (r .from) 0) (length (now (file .entry))) outside) ⌝ }
+// Where text `number`, from 1 on, stands in a file that was examined and accepted; rule 29. Its entry is one of the further ones of 50909.
+fn later_text(file: &[u8], e: Examined, number: u32) -> Text
+    requires { ⌜ (e ≡ examinedOf (now file)) × (e .judged .verdict .number ≡ 0) × (0 < number) ⌝ }
+    ensures { λ r. ⌜ ((m : ℕ) → r ≡ textOf (now (file .entry)) number m) × (r .start + r .len ≤ length (now (file .entry))) × (r .from ≡ 0) ⌝ }
+{
+    let further = e.further;
+    let k = number as usize;
+    if further.many < k {
+        return Text {
+            verdict: Verdict {
+                number: 29,
+                place: number,
+            },
+            from: 0,
+            start: 0,
+            len: 0,
+        };
+    }
+    let entries = layout::value(file, further.start, 12 * further.many);
+    let t = layout::entry_at(entries, e.big, further.start, 12 * (k - 1));
+    Text {
+        verdict: Verdict {
+            number: 0,
+            place: 0,
+        },
+        from: 0,
+        start: t.start,
+        len: t.len,
+    }
+}
+
+// Where a metadata text stands, by its number, with so many bytes of outside text lent beside the file: the file's own texts prevail. Any number may be
+// asked for.
+pub fn text(file: &[u8], number: u32, outside: usize) -> Text
+    ensures { λ r. ⌜ (r ≡ textOf (now (file .entry)) number outside) × (r .start + r .len ≤ cond (eqb (r .from) 0) (length (now (file .entry))) outside) ⌝ }
 {
     let e = judge::examine(file);
     let verdict = e.judged.verdict;
@@ -113,6 +145,9 @@ pub fn text(file: &[u8], outside: usize) -> Text
             start: 0,
             len: 0,
         };
+    }
+    if number != 0 {
+        return later_text(file, e, number);
     }
     let start = e.metadata.start;
     let len = e.metadata.len;
@@ -132,18 +167,19 @@ pub fn text(file: &[u8], outside: usize) -> Text
     }
 }
 
-// The metadata text: the part of the file where tag 50909 is present, else the whole outside text; empty on a refusal.
+// A metadata text, by its number: the part of the file where tag 50909 is present, else the whole outside text; empty on a refusal.
 pub fn metadata<'a>(
     file: &'a [u8],
     outside: &'a [u8],
+    number: u32,
     verdict: &mut u32,
     place: &mut u32,
 ) -> &'a [u8]
-    ensures part { λ r. ⌜ now r ≡ metadataText (now (file .entry)) (now (outside .entry)) ⌝ }
-    ensures verdict { λ _. ⌜ now (verdict .exit) ≡ textOf (now (file .entry)) (length (now (outside .entry))) .verdict .number ⌝ }
-    ensures place { λ _. ⌜ now (place .exit) ≡ textOf (now (file .entry)) (length (now (outside .entry))) .verdict .place ⌝ }
+    ensures part { λ r. ⌜ now r ≡ metadataText (now (file .entry)) number (now (outside .entry)) ⌝ }
+    ensures verdict { λ _. ⌜ now (verdict .exit) ≡ textOf (now (file .entry)) number (length (now (outside .entry))) .verdict .number ⌝ }
+    ensures place { λ _. ⌜ now (place .exit) ≡ textOf (now (file .entry)) number (length (now (outside .entry))) .verdict .place ⌝ }
 {
-    let t = text(file, outside.len());
+    let t = text(file, number, outside.len());
     *verdict = t.verdict.number;
     *place = t.verdict.place;
     if t.from == 0 {

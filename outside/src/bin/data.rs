@@ -1,9 +1,9 @@
 //! Writes the files that the program `vectors` judges, with what it must print:
 //! data DIR [SEED] fills DIR/data, DIR/args and DIR/stdout. There is file A with
-//! its marked changes, a file of tiles with changes of it, and for each clause of
-//! rules 1 to 22 and 27 the smallest targeted file beyond its boundary and within
-//! it, in both byte orders; files of other producers, which `field` has, are
-//! taken in as they are.
+//! its marked changes, a file of tiles and one of three metadata tags with
+//! changes of them, and for each clause of rules 1 to 22 and 27 the smallest
+//! targeted file beyond its boundary and within it, in both byte orders; files of
+//! other producers, which `field` has, are taken in as they are.
 
 use outside::generator::plan::{Laid, Plan, Tag};
 use outside::generator::{random, targeted, Call};
@@ -24,6 +24,7 @@ fn main() {
     let mut files = clauses(seed);
     files.extend(marked());
     files.extend(tiled());
+    files.extend(mosaics());
     files.extend(mixed(seed));
     files.extend(real(&Path::new(env!("CARGO_MANIFEST_DIR")).join("field")));
     write(folder, &files).expect("the files are written");
@@ -123,6 +124,59 @@ fn tiled() -> BTreeMap<String, Vec<u8>> {
             let mut laid = tiles(order).lay();
             change(&mut laid);
             files.insert(format!("tiled-{name}-{mark}"), laid.bytes);
+        }
+    }
+    files
+}
+
+/// Sets the tags of the three metadata entries.
+fn renamed(laid: &mut Laid, tags: [u16; 3]) {
+    let texts = laid.all(50909);
+    (0..3).for_each(|at| laid.put_short(texts[at].entry, tags[at]));
+}
+
+/// Puts the first tile on the first byte of a metadata text.
+fn tile_on(laid: &mut Laid, text: usize) {
+    laid.put_long(laid.spot(324).value, laid.all(50909)[text].value as u32);
+    laid.put_short(laid.spot(325).value, 1);
+}
+
+/// Changes of single bytes of the file of tiles with three metadata tags, of
+/// which the second is in its entry.
+const MOSAIC_BYTES: [(&str, fn(&mut Laid)); 17] = [
+    ("as-it-is", |_| ()),
+    ("50908-50909-50909", |laid| renamed(laid, [50908, 50909, 50909])),
+    ("50909-50909-50910", |laid| renamed(laid, [50909, 50909, 50910])),
+    ("6-50909-50910-50909", |laid| renamed(laid, [50909, 50910, 50909])),
+    ("6-50909-50908-50909", |laid| renamed(laid, [50909, 50908, 50909])),
+    ("6-50908-50908-50909", |laid| renamed(laid, [50908, 50908, 50909])),
+    ("6-50909-50910-50910", |laid| renamed(laid, [50909, 50910, 50910])),
+    ("7-second-count-0", |laid| laid.put_long(laid.all(50909)[1].entry + 4, 0)),
+    ("7-third-count-0", |laid| laid.put_long(laid.all(50909)[2].entry + 4, 0)),
+    ("7-third-odd", |laid| laid.put_long(laid.all(50909)[2].entry + 8, 9)),
+    ("7-third-past-n", |laid| laid.put_long(laid.all(50909)[2].entry + 4, u32::MAX)),
+    ("10-second-type-2", |laid| laid.put_short(laid.all(50909)[1].entry + 2, 2)),
+    ("10-third-type-7", |laid| laid.put_short(laid.all(50909)[2].entry + 2, 7)),
+    ("14-first", |laid| tile_on(laid, 0)),
+    ("14-second-in-its-entry", |laid| tile_on(laid, 1)),
+    ("14-third", |laid| tile_on(laid, 2)),
+    ("third-over-the-first", |laid| {
+        laid.put_long(laid.all(50909)[2].entry + 8, laid.all(50909)[0].value as u32);
+    }),
+];
+
+/// That file and its changes, in both byte orders.
+fn mosaics() -> BTreeMap<String, Vec<u8>> {
+    let mut files: BTreeMap<String, Vec<u8>> = BTreeMap::new();
+    for (order, mark) in [(Order::Little, "II"), (Order::Big, "MM")] {
+        let mut plan = tiles(order);
+        for text in [&b"<first sheet/>"[..], b"two", b"<third/>"] {
+            plan.add(Tag::bytes(50909, 1, text));
+        }
+        for (name, change) in MOSAIC_BYTES {
+            let mut laid = plan.lay();
+            change(&mut laid);
+            files.insert(format!("mosaic-{name}-{mark}"), laid.bytes);
         }
     }
     files

@@ -1,11 +1,12 @@
-//! lists SEED MOST: writes files of every verdict, at most MOST of each, with
-//! their reading lists and verdicts, for outside/closed.
+//! lists SEED MOST: writes files of every verdict, at most MOST of each, and as
+//! many with more than one metadata tag, with their reading lists and verdicts,
+//! for outside/closed.
 //!
 //! Each is 4-byte numbers, the lowest byte first: length, verdict, place, the
 //! number of parts of the list, first byte and end of each; then the bytes.
 
 use outside::generator::{sample, targeted, Call};
-use outside::reader::{judge, judgements, reading_list};
+use outside::reader::{judge, judgements, reading_list, several_texts};
 use std::collections::BTreeMap;
 use std::io::Write;
 use std::process::ExitCode;
@@ -21,10 +22,15 @@ fn main() -> ExitCode {
     };
     let plain = targeted(seed).into_iter().filter(|case| matches!(case.call, Call::Judge));
     let mixed = (0..MIXED).map(|number| sample(seed, number).file);
-    let mut seen: BTreeMap<u32, u64> = judgements().map(|number| (number, 0)).collect();
+    // without a whole directory no tag is there
+    let needed = [false, true].into_iter().flat_map(|several| {
+        judgements().filter(move |n| !several || *n == 0 || *n > 5).map(move |n| (n, several))
+    });
+    let mut seen: BTreeMap<(u32, bool), u64> = needed.map(|kind| (kind, 0)).collect();
     let mut bytes = Vec::new();
     for file in mixed.chain(plain.map(|case| case.file)) {
-        let count = seen.entry(judge(&file).verdict.number).or_insert(0);
+        let kind = (judge(&file).verdict.number, several_texts(&file));
+        let count = seen.entry(kind).or_insert(0);
         *count += 1;
         if *count <= most {
             bytes.extend(record(&file));

@@ -1,7 +1,8 @@
-//! pieces COUNT BYTES [tiles] [big]: writes an accepted file of so many strips,
-//! or tiles, of so many bytes each to standard output.
+//! pieces COUNT BYTES [tiles] [texts] [big]: writes an accepted file of so many
+//! strips, or tiles, of so many bytes each to standard output; with `texts` one
+//! of strips between as many metadata tags as a directory has room for.
 
-use outside::generator::large::{many_pieces, possible};
+use outside::generator::large::{many_pieces, many_texts, possible};
 use outside::reader::tables::Family;
 use outside::reader::Order;
 use std::io::Write;
@@ -14,14 +15,22 @@ fn main() -> ExitCode {
     let family = if said("tiles") { Family::Tiles } else { Family::Strips };
     let order = if said("big") { Order::Big } else { Order::Little };
     let (Some(count), Some(bytes)) = (number(0), number(1)) else {
-        eprintln!("pieces COUNT BYTES [tiles] [big]");
+        eprintln!("pieces COUNT BYTES [tiles] [texts] [big]");
         return ExitCode::FAILURE;
     };
     if !possible(family, count) {
         eprintln!("pieces: no picture has {count} {}s", family.word());
         return ExitCode::FAILURE;
     }
-    match std::io::stdout().write_all(&many_pieces(order, family, count, bytes)) {
+    let file = match (said("texts"), family) {
+        (false, _) => many_pieces(order, family, count, bytes),
+        (true, Family::Strips) => many_texts(order, count, bytes),
+        (true, Family::Tiles) => {
+            eprintln!("pieces: texts stand between strips alone");
+            return ExitCode::FAILURE;
+        }
+    };
+    match std::io::stdout().write_all(&file) {
         Ok(()) => ExitCode::SUCCESS,
         Err(_) => ExitCode::FAILURE,
     }

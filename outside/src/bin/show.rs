@@ -3,7 +3,8 @@
 //! metadata, all to be compared by hand.
 
 use outside::reader::{
-    citation, judge, judge_clause, key_block, key_rows, metadata, reading_list, Georeference, Row,
+    citation, judge, judge_clause, key_block, key_rows, metadata, reading_list, texts,
+    Georeference, Row,
 };
 use std::process::ExitCode;
 
@@ -48,7 +49,8 @@ fn show(path: &str, file: &[u8]) {
     println!("corners {}", hex(&judged.corners));
     println!("corners in decimal {:?}", judged.corners);
     block(file);
-    texts(file);
+    citations(file);
+    metadata_texts(file);
 }
 
 fn rows(file: &[u8]) {
@@ -69,7 +71,7 @@ fn block(file: &[u8]) {
     println!("block verdict {number} place {place} lengths {directory} {doubles} {characters}");
 }
 
-fn texts(file: &[u8]) {
+fn citations(file: &[u8]) {
     for key in [1026, 2049, 3073, 4097] {
         let cited = citation(file, key);
         if cited.verdict.number == 0 {
@@ -77,9 +79,15 @@ fn texts(file: &[u8]) {
             println!("citation {key} at {} {:?}", cited.start, String::from_utf8_lossy(text));
         }
     }
-    let text = metadata(file, &[]);
-    match text.from {
-        0 => println!("metadata in the file at {} length {}", text.start, text.length),
-        _ => println!("metadata outside"),
+}
+
+/// Each text by its number; where there is none, the outside text is number 0.
+fn metadata_texts(file: &[u8]) {
+    for number in 0..texts(file).max(1) as u32 {
+        let text = metadata(file, &[], number);
+        match text.from {
+            0 => println!("metadata {number} in the file at {} length {}", text.start, text.length),
+            _ => println!("metadata {number} outside"),
+        }
     }
 }

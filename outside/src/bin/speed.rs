@@ -10,8 +10,8 @@
 //! All but `write` and `count` need the static library linked. outside/speed
 //! runs it.
 
-use outside::generator::large::many_pieces;
-use outside::generator::sample;
+use outside::generator::large::{many_pieces, many_texts};
+use outside::generator::plain_sample;
 use outside::reader::tables::{Family, BOTH};
 use outside::reader::{families, judge, Order};
 use std::path::Path;
@@ -49,10 +49,15 @@ fn usage() -> ExitCode {
 /// The bytes of each piece of the files of many pieces.
 const PIECE: usize = 3;
 
-/// The mix with every second file damaged, the same of each byte order alone,
-/// and one file each of many strips and of many tiles.
+/// How many strips the larger file of many metadata tags has. Each is tried
+/// against every tag, so that counting the instructions of a million takes long.
+const STRIPS: u32 = 100_000;
+
+/// The mix with every second file damaged, drawn with at most one metadata
+/// tag, the same of each byte order alone, one file each of many strips and of
+/// many tiles, and files of many metadata tags.
 fn write_all(folder: &Path) {
-    let mix = || (0..).map(|number| sample(SEED, number).file);
+    let mix = || (0..).map(|number| plain_sample(SEED, number).file);
     let of_order = |mark: u8| mix().filter(move |file| file.first() == Some(&mark));
     write(folder, "mixed", mix().take(FILES));
     write(folder, "little", of_order(0x49).take(FILES));
@@ -63,6 +68,10 @@ fn write_all(folder: &Path) {
             let file = many_pieces(Order::Little, family, pieces, PIECE as u32);
             write(folder, &name, [file].into_iter());
         }
+    }
+    for strips in [1_000, STRIPS] {
+        let file = many_texts(Order::Little, strips, PIECE as u32);
+        write(folder, &format!("tags-{strips}"), [file].into_iter());
     }
 }
 
@@ -131,6 +140,7 @@ mod measure {
 mod measure {
     use outside::compiled::{ground_into, verdict_of, Raw};
     use outside::fast;
+    use outside::reader::several_texts;
     use std::hint::black_box;
     use std::time::Instant;
 
@@ -193,9 +203,11 @@ mod measure {
         println!("  ratio of the best: ground {:.2}, judge {:.2}", ratio(0), ratio(2));
     }
 
-    /// Offsets and byte counts stand right before the pieces, as LONGs.
+    /// Offsets and byte counts are LONGs, and right behind them stand the
+    /// pieces; of a file of many metadata tags they are its end.
     pub fn fetch(pieces: usize, files: &[Vec<u8>]) {
-        let words = files[0].len() - (super::PIECE + 8) * pieces;
+        let behind = if several_texts(&files[0]) { 0 } else { super::PIECE * pieces };
+        let words = files[0].len() - behind - 8 * pieces;
         let from = files[0].as_ptr() as usize + words;
         println!("{from:08x} {:08x}", from + 8 * pieces);
         assert_eq!(verdict_of(black_box(&files[0])), (0, 0));

@@ -1,12 +1,13 @@
 //! Writes a module of theorems about the paper's definitions: for each clause
-//! the smallest targeted cases on both sides of its boundary, and some random
-//! files, each with every answer that the second reader gives. The checker
-//! computes the definitions on each file and compares.
+//! the smallest targeted cases on both sides of its boundary, with one metadata
+//! tag or none and with more, and some random files, each with every answer that
+//! the second reader gives. The checker computes the definitions on each file
+//! and compares.
 
 use outside::generator::{random, targeted, Call, Case};
 use outside::reader::{
-    citation, judge, key_block, key_rows, metadata, read_block, reading_list, Block, Cited,
-    Georeference, Judged, Row, Text, Verdict,
+    citation, judge, key_block, key_rows, metadata, read_block, reading_list, several_texts, texts,
+    Block, Cited, Georeference, Judged, Row, Text, Verdict,
 };
 use std::collections::BTreeMap;
 use std::fmt::Write;
@@ -31,17 +32,19 @@ fn main() {
     eprintln!("{} theorems", page.number);
 }
 
-/// The smallest case of each clause and side.
+/// The smallest case of each clause and side, and of those with more than one
+/// metadata tag.
 fn chosen(cases: Vec<Case>) -> Vec<Case> {
-    let mut best: BTreeMap<(&'static str, bool), Case> = BTreeMap::new();
+    let mut best: BTreeMap<(&'static str, bool, bool), Case> = BTreeMap::new();
     for case in cases {
         if case.file.len() > LARGEST {
             continue;
         }
-        match best.get(&(case.clause, case.broken)) {
+        let kind = (case.clause, case.broken, several_texts(&case.file));
+        match best.get(&kind) {
             Some(other) if other.file.len() <= case.file.len() => {}
             _ => {
-                best.insert((case.clause, case.broken), case);
+                best.insert(kind, case);
             }
         }
     }
@@ -96,6 +99,10 @@ impl Page {
             Call::Judge => self.file(&case.file, &why),
             Call::Rows(lent) => self.rows(&case.file, *lent, &why),
             Call::Citation(key) => self.cited(&case.file, *key, &why),
+            Call::Metadata(number) => {
+                let name = self.named(&case.file, &why);
+                self.text_of(&case.file, &name, *number);
+            }
             Call::Block(room) => self.block(&case.file, *room, &why),
             Call::ReadBlock([directory, doubles, characters]) => {
                 let (verdict, keys) = read_block(directory, doubles, characters);
@@ -109,7 +116,8 @@ impl Page {
         }
     }
 
-    /// The judgement and the reading list; of an accepted file the other calls too.
+    /// The judgement, the reading list and a text that no file has; of an
+    /// accepted file the other calls too.
     fn file(&mut self, file: &[u8], why: &str) {
         let judged = judge(file);
         let name = self.named(file, why);
@@ -118,6 +126,7 @@ impl Page {
         let parts =
             parts.map(|range| format!("part {} {} ∷ ", range.start, range.end - range.start));
         self.theorem(&format!("readingList {name}"), &(parts.collect::<String>() + "[]"), "");
+        self.text_of(file, &name, u32::MAX);
         if judged.verdict.number == 0 {
             self.more(file, &name, judged.keys as usize);
         }
@@ -129,8 +138,10 @@ impl Page {
         for key in [1026, 3073] {
             self.cited_of(file, name, key);
         }
-        let outside = [7u8; 5];
-        self.theorem(&format!("textOf {name} 5"), &text(&metadata(file, &outside)), "");
+        // every text of a file of a few, and the number behind the last
+        for number in 0..=texts(file).min(4) {
+            self.text_of(file, name, number as u32);
+        }
         let mut large = vec![170u8; 4000];
         let lengths = key_block(file, &mut large).lengths;
         self.block_of(file, name, lengths.iter().sum::<usize>() + 3);
@@ -155,6 +166,12 @@ impl Page {
             &(list + "[]"),
             "",
         );
+    }
+
+    /// The text of that number, with an outside text of five bytes.
+    fn text_of(&mut self, file: &[u8], name: &str, number: u32) {
+        let answer = text(&metadata(file, &[7; 5], number));
+        self.theorem(&format!("textOf {name} {number} 5"), &answer, "");
     }
 
     fn cited(&mut self, file: &[u8], key: u32, why: &str) {

@@ -2,7 +2,7 @@
 
 use super::question::{Question, Symbol};
 use crate::generator::prng::Random;
-use crate::reader::{judge, key_block};
+use crate::reader::{judge, key_block, texts};
 
 /// Bytes at either end of lent memory; rows begin at a multiple of 4.
 const MARGIN: usize = 32;
@@ -29,11 +29,13 @@ pub fn block<'a>(file: &'a [u8], room: usize, random: &mut Random) -> Question<'
 }
 
 pub fn citation(file: &[u8], key: u32) -> Question<'_> {
-    Question { key, ..Question::on(Symbol::Citation, file) }
+    Question { asked: key, ..Question::on(Symbol::Citation, file) }
 }
 
-pub fn metadata<'a>(file: &'a [u8], outside: &'a [u8]) -> Question<'a> {
-    Question { runs: [file, outside, &[]], ..Question::on(Symbol::Metadata, file) }
+/// The metadata text of that number, with an outside text.
+pub fn metadata<'a>(file: &'a [u8], outside: &'a [u8], number: u32) -> Question<'a> {
+    let runs = [file, outside, &[]];
+    Question { asked: number, runs, ..Question::on(Symbol::Metadata, file) }
 }
 
 pub fn read_block<'a>(runs: &'a [Vec<u8>; 3]) -> Question<'a> {
@@ -56,6 +58,14 @@ fn around(needed: usize, others: &[usize]) -> Vec<usize> {
     sizes
 }
 
+/// The numbers of metadata texts to ask for: those around the number of texts,
+/// and some far from it.
+pub fn numbers(file: &[u8]) -> Vec<u32> {
+    let mut numbers: Vec<u32> = around(texts(file), &[]).iter().map(|&each| each as u32).collect();
+    numbers.extend([255, 65_536, 1 << 31, u32::MAX]);
+    numbers
+}
+
 /// Key numbers of every sort: ASCII ones, others, and some beyond 16 bits.
 const ASKED: [u32; 12] =
     [0, 1024, 1026, 2049, 2057, 3073, 4097, 60_003, 65_535, 65_536 + 1026, 1 << 31, u32::MAX];
@@ -67,6 +77,7 @@ pub fn every_call<'a>(file: &'a [u8], random: &mut Random) -> Vec<Question<'a>> 
     list.extend(around(keys, &[255, 256, 257]).iter().map(|&lent| rows(file, lent, random)));
     list.extend(around(bytes, &[bytes + 60]).iter().map(|&room| block(file, room, random)));
     list.extend(ASKED.map(|key| citation(file, key)));
-    list.extend([&b""[..], b"<", b"an outside text"].map(|outside| metadata(file, outside)));
+    list.extend([&b""[..], b"<"].map(|outside| metadata(file, outside, 0)));
+    list.extend(numbers(file).iter().map(|&number| metadata(file, b"an outside text", number)));
     list
 }

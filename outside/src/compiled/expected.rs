@@ -14,8 +14,8 @@ pub fn reply(question: &Question) -> Reply {
         Symbol::Judge => reader::judge(file).verdict,
         Symbol::Ground => ground(file, &mut numbers),
         Symbol::Rows => rows(file, room, &mut numbers),
-        Symbol::Citation => citation(file, question.key, &mut numbers),
-        Symbol::Metadata => metadata(file, second, &mut numbers),
+        Symbol::Citation => citation(file, question.asked, &mut numbers),
+        Symbol::Metadata => metadata(file, second, question.asked, &mut numbers),
         Symbol::KeyBlock => key_block(file, room, &mut numbers),
         Symbol::ReadBlock => counted(reader::read_block(file, second, third), &mut numbers),
     };
@@ -65,8 +65,8 @@ fn citation(file: &[u8], key: u32, numbers: &mut Numbers) -> Verdict {
     cited.verdict
 }
 
-fn metadata(file: &[u8], outside: &[u8], numbers: &mut Numbers) -> Verdict {
-    let text = reader::metadata(file, outside);
+fn metadata(file: &[u8], outside: &[u8], number: u32, numbers: &mut Numbers) -> Verdict {
+    let text = reader::metadata(file, outside, number);
     numbers.third = text.from;
     part(text.start, text.length, numbers);
     text.verdict

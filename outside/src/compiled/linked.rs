@@ -37,6 +37,7 @@ extern "C" {
         len: usize,
         outside: *const u8,
         outside_len: usize,
+        number: u32,
         verdict: *mut u32,
         place: *mut u32,
         from: *mut u32,
@@ -132,6 +133,7 @@ unsafe fn call(question: &Question, lent: *mut u8, numbers: &mut Numbers) {
     let first = lent.add(question.memory.len()).cast_const();
     let second = first.add(one);
     let third = second.add(two);
+    let asked = question.asked;
     let (v, p, t) = (&mut numbers.verdict, &mut numbers.place, &mut numbers.third);
     let wide = numbers.wide.as_mut_ptr();
     let (start, length): (*mut usize, *mut usize) = (wide.cast(), wide.add(1).cast());
@@ -139,8 +141,10 @@ unsafe fn call(question: &Question, lent: *mut u8, numbers: &mut Numbers) {
         Symbol::Judge => petalbuzz_judge(first, one, v, p),
         Symbol::Ground => petalbuzz_ground(first, one, v, p, t, wide.cast(), wide.add(6).cast()),
         Symbol::Rows => petalbuzz_rows(first, one, out.cast(), room / 16, v, p, t),
-        Symbol::Citation => petalbuzz_citation(first, one, question.key, v, p, start, length),
-        Symbol::Metadata => petalbuzz_metadata(first, one, second, two, v, p, t, start, length),
+        Symbol::Citation => petalbuzz_citation(first, one, asked, v, p, start, length),
+        Symbol::Metadata => {
+            petalbuzz_metadata(first, one, second, two, asked, v, p, t, start, length);
+        }
         Symbol::KeyBlock => petalbuzz_key_block(first, one, out, room, v, p, wide.cast()),
         Symbol::ReadBlock => petalbuzz_read_block(first, one, second, two, third, three, v, p, t),
     }

@@ -30,7 +30,7 @@ fn frame(question: &Question) -> Vec<u8> {
     let [one, two, three] = question.runs.map(<[u8]>::len);
     let number = |length: usize| u32::try_from(length).expect("a run of at most 4 GiB");
     let sizes = [question.margin, question.memory.len(), one, two, three].map(number);
-    let head = [&[question.symbol as u32, question.key], &sizes[..]].concat();
+    let head = [&[question.symbol as u32, question.asked], &sizes[..]].concat();
     let mut bytes: Vec<u8> = head.iter().flat_map(|number| number.to_le_bytes()).collect();
     bytes.extend(question.bytes());
     bytes

@@ -17,8 +17,8 @@ pub enum Symbol {
 #[derive(Clone, Debug)]
 pub struct Question<'a> {
     pub symbol: Symbol,
-    /// The key whose citation is asked for.
-    pub key: u32,
+    /// The key whose citation is asked for, or the number of the metadata text.
+    pub asked: u32,
     /// The memory for rows or for a block, with the margins at both its ends
     /// that are not lent.
     pub memory: Vec<u8>,
@@ -30,7 +30,7 @@ pub struct Question<'a> {
 impl<'a> Question<'a> {
     /// A question on one file, with nothing else lent.
     pub fn on(symbol: Symbol, file: &'a [u8]) -> Self {
-        Question { symbol, key: 0, memory: Vec::new(), margin: 0, runs: [file, &[], &[]] }
+        Question { symbol, asked: 0, memory: Vec::new(), margin: 0, runs: [file, &[], &[]] }
     }
 
     /// With this memory lent, less its margins.
@@ -114,8 +114,8 @@ impl Reply {
         let (got, must) = (self.numbers, want.numbers);
         let byte = (0..want.bytes.len()).find(|&at| self.bytes[at] != want.bytes[at]);
         let byte = byte.map(|at| (at, self.bytes[at], want.bytes[at]));
-        let (key, room) = (question.key, question.room());
-        let about = format!("{:?} of key {key} with {room:?} lent", question.symbol);
+        let (asked, room) = (question.asked, question.room());
+        let about = format!("{:?} of {asked} with {room:?} lent", question.symbol);
         Some(format!(
             "{about} gives {got:?}\n  not {must:?}\n  first wrong byte {byte:?}\n  on {:02X?}",
             question.runs

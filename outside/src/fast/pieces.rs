@@ -2,8 +2,9 @@
 
 use super::number::{long, short};
 use super::tags::slot::{STRIP_BYTE_COUNTS, STRIP_OFFSETS, TILE_BYTE_COUNTS, TILE_OFFSETS};
-use super::tags::{Tags, SHORT};
+use super::tags::{later_value, Tags, SHORT};
 use super::{refuse, Refusal};
+use std::hint::black_box;
 
 /// A run of the file that holds no byte of the reading list: pieces mostly
 /// lie in the same one as the piece before.
@@ -13,12 +14,11 @@ struct Gap {
     bytes: u64,
 }
 
-/// The gap around a byte, or none if the byte is on the list.
-#[inline(never)]
-fn gap_at(parts: &[(u32, u32)], at: u64, n: u64) -> Option<Gap> {
-    let (mut from, mut to) = (8, n);
-    for &(first, end) in parts {
-        let (first, end) = (u64::from(first), u64::from(end));
+/// What the parts leave of a gap around a byte, or none if the byte is on one.
+#[inline(always)]
+fn narrowed(gap: Gap, parts: impl Iterator<Item = (u64, u64)>, at: u64) -> Option<Gap> {
+    let (mut from, mut to) = (gap.first, gap.first + gap.bytes);
+    for (first, end) in parts {
         if end <= at {
             from = from.max(end);
         } else if at < first {
@@ -30,52 +30,72 @@ fn gap_at(parts: &[(u32, u32)], at: u64, n: u64) -> Option<Gap> {
     Some(Gap { first: from, bytes: to - from })
 }
 
-/// How many pieces from the first on lie in the gap. Such a piece keeps both
-/// rules.
+/// The gap around a byte, or none if the byte is on the list, without the
+/// further metadata tags.
+#[inline(never)]
+fn gap_at(parts: &[(u32, u32)], at: u64, n: u64) -> Option<Gap> {
+    let parts = parts.iter().map(|&(first, end)| (u64::from(first), u64::from(end)));
+    narrowed(Gap { first: 8, bytes: n - 8 }, parts, at)
+}
+
+/// The same with them, looked at one by one.
+#[cold]
+#[inline(never)]
+fn gap_among<const BIG: bool>(later: &[[u8; 12]], gap: Gap, at: u64) -> Option<Gap> {
+    narrowed(gap, later.iter().filter_map(later_value::<BIG>), at)
+}
+
+/// The first piece that does not lie in the gap: its index, and its start and
+/// end from the gap's first byte on. Those before it keep both rules.
 #[inline(always)]
-fn inside<A, B>(
+fn outside<A, B>(
     gap: Gap,
     (offsets, counts): (&[A], &[B]),
     number: impl Fn(&A, &B) -> (u64, u64),
-) -> usize {
-    let outside = |(a, b)| {
+) -> Option<(usize, u64, u64)> {
+    offsets.iter().zip(counts).enumerate().find_map(|(piece, (a, b))| {
         let (at, bytes) = number(a, b);
-        // both from the gap's first byte on: a piece that is empty, or starts
-        // before the gap, does not start below its end
+        // a piece that is empty, or starts before the gap, does not start below
+        // its end
         let start = at.wrapping_sub(gap.first);
         let end = start.wrapping_add(bytes);
-        start >= end || end > gap.bytes
-    };
-    offsets.iter().zip(counts).position(outside).unwrap_or(offsets.len())
+        (start >= end || end > gap.bytes).then_some((piece, start, end))
+    })
 }
 
 /// Rules 13 and 14, where `number` reads offset and byte count of a piece.
 #[inline(always)]
-fn pass<A, B>(
-    n: u64,
+fn pass<const BIG: bool, A, B>(
+    file: &[u8],
     tags: &Tags,
     (offsets, counts): (&[A], &[B]),
     number: impl Fn(&A, &B) -> (u64, u64),
 ) -> Result<(), Refusal> {
+    let n = file.len() as u64;
     let counts = &counts[..offsets.len()];
-    let (mut gap, mut shared, mut piece) = (Gap { first: 0, bytes: 0 }, None, 0);
-    loop {
-        piece += inside(gap, (&offsets[piece..], &counts[piece..]), &number);
-        if piece == offsets.len() {
-            break;
-        }
-        let (at, bytes) = number(&offsets[piece], &counts[piece]);
+    let (mut gap, mut shared, mut next) = (Gap { first: 0, bytes: 0 }, None, 0);
+    while let Some((ahead, start, end)) = outside(gap, (&offsets[next..], &counts[next..]), &number)
+    {
+        // else offset and byte count are kept for this, at one instruction for
+        // each piece
+        let (start, end) = (black_box(start), black_box(end));
+        let (piece, bytes) = (next + ahead, end.wrapping_sub(start));
+        let at = start.wrapping_add(gap.first);
         let end = at + bytes;
         if bytes == 0 || at < 8 || end > n {
             return refuse(13, piece as u32);
         }
         if shared.is_none() {
-            match gap_at(tags.parts(), at, n) {
+            let mut found = gap_at(tags.parts(), at, n);
+            if tags.several() {
+                found = found.and_then(|gap| gap_among::<BIG>(tags.later(file), gap, at));
+            }
+            match found {
                 Some(found) if end - found.first <= found.bytes => gap = found,
                 _ => shared = Some(piece as u32),
             }
         }
-        piece += 1;
+        next = piece + 1;
     }
     match shared {
         Some(piece) => refuse(14, piece),
@@ -89,7 +109,6 @@ pub fn rules13and14<const BIG: bool, const TILED: bool>(
     file: &[u8],
     tags: &Tags,
 ) -> Result<(), Refusal> {
-    let n = file.len() as u64;
     let shorts = |slot: usize| tags.value(file, slot, 2).as_chunks::<2>().0;
     let longs = |slot: usize| tags.value(file, slot, 4).as_chunks::<4>().0;
     let two = |bytes: &[u8; 2]| u64::from(short::<BIG>(*bytes));
@@ -99,9 +118,17 @@ pub fn rules13and14<const BIG: bool, const TILED: bool>(
         true => (TILE_OFFSETS, TILE_BYTE_COUNTS),
     };
     match (!TILED && tags.entry(a).kind == SHORT, tags.entry(b).kind == SHORT) {
-        (true, true) => pass(n, tags, (shorts(a), shorts(b)), |a, b| (two(a), two(b))),
-        (true, false) => pass(n, tags, (shorts(a), longs(b)), |a, b| (two(a), four(b))),
-        (false, true) => pass(n, tags, (longs(a), shorts(b)), |a, b| (four(a), two(b))),
-        (false, false) => pass(n, tags, (longs(a), longs(b)), |a, b| (four(a), four(b))),
+        (true, true) => {
+            pass::<BIG, _, _>(file, tags, (shorts(a), shorts(b)), |a, b| (two(a), two(b)))
+        }
+        (true, false) => {
+            pass::<BIG, _, _>(file, tags, (shorts(a), longs(b)), |a, b| (two(a), four(b)))
+        }
+        (false, true) => {
+            pass::<BIG, _, _>(file, tags, (longs(a), shorts(b)), |a, b| (four(a), two(b)))
+        }
+        (false, false) => {
+            pass::<BIG, _, _>(file, tags, (longs(a), longs(b)), |a, b| (four(a), four(b)))
+        }
     }
 }

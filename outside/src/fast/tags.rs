@@ -128,6 +128,9 @@ pub struct Tags {
     present: u32,
     parts: [(u32, u32); ALL + 2],
     used: usize,
+    /// From which entry of the directory to which the metadata tag stands
+    /// behind its first; none if the second number is 0.
+    later: (u32, u32),
     pub width: u32,
     pub length: u32,
 }
@@ -154,6 +157,12 @@ fn value_end(kind: u32, count: u32, offset: u32, n: u64) -> Option<u64> {
     Some(0)
 }
 
+/// Rule 6: whether a tag may not stand behind another.
+#[inline(always)]
+fn unordered(last: u32, tag: u32) -> bool {
+    tag <= last && (tag < last || tag != TAGS[METADATA])
+}
+
 /// Rule 6 for the entries behind one that breaks rule 7.
 #[cold]
 #[inline(never)]
@@ -161,12 +170,27 @@ fn rule7<T, const BIG: bool>(rest: &[[u8; 12]], tag: u32) -> Result<T, Refusal> 
     let mut last = tag;
     for entry in rest {
         let later = u32::from(short_at::<BIG, 12>(entry, 0));
-        if later <= last {
+        if unordered(last, later) {
             return refuse(6, later);
         }
         last = later;
     }
     refuse(7, tag)
+}
+
+/// Type, count and offset of a further metadata tag.
+#[inline(always)]
+fn fields<const BIG: bool>(entry: &[u8; 12]) -> (u32, u32, u32) {
+    let kind = u32::from(short_at::<BIG, 12>(entry, 2));
+    (kind, long_at::<BIG, 12>(entry, 4), long_at::<BIG, 12>(entry, 8))
+}
+
+/// The first byte and the end of the value of a further metadata tag of type
+/// BYTE; one in its entry is in the directory, and none here.
+#[inline(always)]
+pub fn later_value<const BIG: bool>(entry: &[u8; 12]) -> Option<(u64, u64)> {
+    let (_, count, at) = fields::<BIG>(entry);
+    (count > 4).then(|| (u64::from(at), u64::from(at) + u64::from(count)))
 }
 
 impl Tags {
@@ -175,7 +199,8 @@ impl Tags {
     pub fn new(at: u32, count: u32) -> Self {
         let mut parts = [(0, 0); ALL + 2];
         parts[0] = (at, at + 2 + 12 * count + 4);
-        Tags { entries: [Entry::default(); ALL], present: 0, parts, used: 1, width: 0, length: 0 }
+        let entries = [Entry::default(); ALL];
+        Tags { entries, present: 0, parts, used: 1, later: (0, 0), width: 0, length: 0 }
     }
 
     /// Rules 6 to 9 and 27; whether the pieces are tiles.
@@ -186,7 +211,9 @@ impl Tags {
         entries: &[[u8; 12]],
         next: &[u8; 4],
     ) -> Result<bool, Refusal> {
-        self.rules6and7::<BIG>(n, entries)?;
+        if let Err(refusal) = self.rules6and7::<BIG>(n, entries) {
+            self.rest::<BIG>(n, entries, refusal)?;
+        }
         if *next != [0; 4] {
             return refuse(8, 0);
         }
@@ -219,6 +246,7 @@ impl Tags {
         while let Some(entry) = rest.next() {
             let tag = u32::from(short_at::<BIG, 12>(entry, 0));
             if tag as i32 <= last {
+                (self.used, self.present) = (used, present);
                 return refuse(6, tag);
             }
             last = tag as i32;
@@ -256,6 +284,45 @@ impl Tags {
             }
         }
         (self.used, self.present) = (used, present);
+        Ok(())
+    }
+
+    /// Rules 6 and 7 once more where the pass met a metadata tag that is not
+    /// greater than the tag before, from that entry on: further metadata tags,
+    /// then tags outside the table. One of another type than BYTE makes the
+    /// first one such, for rule 10.
+    #[cold]
+    #[inline(never)]
+    fn rest<const BIG: bool>(
+        &mut self,
+        n: u64,
+        entries: &[[u8; 12]],
+        refusal: Refusal,
+    ) -> Result<(), Refusal> {
+        if refusal.rule != 6 || refusal.place != TAGS[METADATA] {
+            return Err(refusal);
+        }
+        let tag_of = |entry: &[u8; 12]| u32::from(short_at::<BIG, 12>(entry, 0));
+        let ascends = |pair: &[[u8; 12]]| tag_of(&pair[0]) < tag_of(&pair[1]);
+        let start = 1 + entries.windows(2).take_while(|pair| ascends(pair)).count();
+        let mut last = tag_of(&entries[start - 1]);
+        for (at, entry) in entries.iter().enumerate().skip(start) {
+            let tag = tag_of(entry);
+            if unordered(last, tag) {
+                return refuse(6, tag);
+            }
+            let (kind, count, field) = fields::<BIG>(entry);
+            if value_end(kind, count, field, n).is_none() {
+                return rule7::<_, BIG>(&entries[at + 1..], tag);
+            }
+            if tag == last {
+                self.later = (start as u32, at as u32 + 1);
+                if kind != BYTE {
+                    self.entries[METADATA].kind = kind;
+                }
+            }
+            last = tag;
+        }
         Ok(())
     }
 
@@ -346,6 +413,18 @@ impl Tags {
     #[inline(always)]
     pub fn parts(&self) -> &[(u32, u32)] {
         &self.parts[..self.used]
+    }
+
+    /// Whether the metadata tag stands more than once.
+    #[inline(always)]
+    pub fn several(&self) -> bool {
+        self.later.1 != 0
+    }
+
+    /// The entries of the metadata tag behind its first.
+    pub fn later<'f>(&self, file: &'f [u8]) -> &'f [[u8; 12]] {
+        let place = |entry: u32| (self.parts[0].0 + 2 + 12 * entry) as usize;
+        file[place(self.later.0)..place(self.later.1)].as_chunks::<12>().0
     }
 
     /// The bytes of a present tag with elements of `size` bytes.

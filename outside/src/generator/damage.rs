@@ -27,6 +27,45 @@ pub fn damage(mut laid: Laid, random: &mut Random) -> Vec<u8> {
     laid.bytes
 }
 
+/// The bytes of a mosaic after damage, mostly of its metadata tags.
+pub fn mosaic(mut laid: Laid, random: &mut Random) -> Vec<u8> {
+    if random.chance(70) {
+        text_field(&mut laid, random);
+        if random.chance(60) {
+            return laid.bytes;
+        }
+    }
+    damage(laid, random)
+}
+
+/// Overwrites a field of one metadata tag, or brings a piece and it together.
+fn text_field(laid: &mut Laid, random: &mut Random) {
+    let text = random.pick(&laid.all(50909));
+    let number = near(random, laid.n());
+    match random.below(8) {
+        0 => laid.put_short(text.entry, random.pick(&[0, 34737, 50908, 50910, 56774, 65_535])),
+        1 => laid.put_short(text.entry + 2, random.pick(&[0, 2, 3, 4, 6, 7, 12, 13, 256])),
+        2 => laid.put_long(text.entry + 4, random.pick(&[0, 1, 4, 5, number])),
+        3 => laid.put_long(text.entry + 8, number),
+        4 => {
+            let other = random.pick(&laid.spots).entry;
+            (0..12).for_each(|at| laid.bytes.swap(text.entry + at, other + at));
+        }
+        5 => {
+            let piece = random.pick(&laid.pieces.clone()).0;
+            laid.put_long(text.entry + 8, random.pick(&[piece, piece - piece % 2, piece + 1]));
+        }
+        _ => {
+            let pieces = laid.pieces.len();
+            let (offsets, _) = laid.places();
+            let end = text.value + text.size;
+            let byte = random.pick(&[text.value - 1, text.value, end - 1, end]) as u32 % 65_536;
+            let piece = random.below(pieces as u64) as usize;
+            laid.put_number(offsets.value, offsets.size == 4 * pieces, piece, byte);
+        }
+    }
+}
+
 /// The spots whose value still lies in the file.
 fn whole_spots(laid: &Laid) -> Vec<Spot> {
     laid.spots.iter().filter(|spot| spot.value + spot.size <= laid.n()).cloned().collect()

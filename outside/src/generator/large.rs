@@ -1,7 +1,7 @@
 //! Accepted files of very many pieces, for the cost of a piece.
 
 use super::plan::{Laid, Plan, Tag};
-use crate::reader::tables::Family;
+use crate::reader::tables::{Family, METADATA, MOST_ENTRIES};
 use crate::reader::Order;
 
 /// The most tiles across and down: a picture of 1,000,000 by 1,000,000 in
@@ -26,7 +26,7 @@ pub fn possible(family: Family, pieces: u32) -> bool {
 /// A file of so many pieces (`possible`), of `bytes` bytes each; offsets and
 /// byte counts are LONG and stand right before the pieces. It keeps every rule.
 pub fn many_pieces(order: Order, family: Family, pieces: u32, bytes: u32) -> Vec<u8> {
-    let laid = frame(order, family, pieces);
+    let laid = frame(order, family, pieces).lay();
     let start = laid.n() + if pieces == 1 { 0 } else { 8 * pieces as usize };
     let (offsets, byte_counts) = family.places();
     let mut laid = longs(laid, offsets, pieces, |piece| start as u32 + bytes * piece);
@@ -35,9 +35,33 @@ pub fn many_pieces(order: Order, family: Family, pieces: u32, bytes: u32) -> Vec
     laid.bytes
 }
 
-/// The file up to its pieces, with no offsets and byte counts in it yet. A
+/// A file of so many strips (`possible`), of `bytes` bytes each, with as many
+/// metadata tags as a directory has room for. Every strip lies in the gap before
+/// one of their values, and the next in another. It keeps every rule; offsets
+/// and byte counts are LONG and stand at its end.
+pub fn many_texts(order: Order, strips: u32, bytes: u32) -> Vec<u8> {
+    let mut plan = frame(order, Family::Strips, strips);
+    // the fewest tags that place a picture
+    [284, 33550, 33922].iter().for_each(|&tag| plan.remove(tag));
+    let matrix = [0.5, 0., 0., 500_000., 0., -0.5, 0., 4_000_000., 0., 0., 0., 0., 0., 0., 0., 1.];
+    plan.set(Tag::doubles(34264, &matrix));
+    while (plan.tags.len() as u64) < MOST_ENTRIES {
+        plan.add(Tag::bytes(METADATA, 1, b"a text"));
+    }
+    plan.gap = (bytes.into(), bytes.into());
+    let mut laid = plan.lay();
+    laid.bytes.resize(laid.n().next_multiple_of(2), 0);
+    let gaps: Vec<u32> = laid.all(METADATA).iter().map(|text| text.value as u32 - bytes).collect();
+    // a step that comes to every gap, since their number is a prime
+    let gap = |strip: u32| gaps[(u64::from(strip) * 389 % gaps.len() as u64) as usize];
+    let (offsets, byte_counts) = Family::Strips.places();
+    let laid = longs(laid, offsets, strips, gap);
+    longs(laid, byte_counts, strips, |_| bytes).bytes
+}
+
+/// A file without its pieces, and with no offsets and byte counts in it yet. A
 /// strip has one row, a tile 16 by 16 pixels.
-fn frame(order: Order, family: Family, pieces: u32) -> Laid {
+fn frame(order: Order, family: Family, pieces: u32) -> Plan {
     let mut plan = Plan::new(order);
     for (tag, number) in [(258, 8), (259, 1), (262, 1), (277, 1), (284, 1)] {
         plan.set(Tag::shorts(tag, &[number]));
@@ -64,7 +88,7 @@ fn frame(order: Order, family: Family, pieces: u32) -> Laid {
     plan.set(Tag::doubles(33922, &[0.0, 0.0, 0.0, 500_000.0, 4_000_000.0, 0.0]));
     let keys = [1, 1, 0, 3, 1024, 0, 1, 1, 1025, 0, 1, 1, 3072, 0, 1, 32633];
     plan.set(Tag::shorts(34735, &keys));
-    plan.lay()
+    plan
 }
 
 /// Adds the LONGs of a tag at the end of the file.

@@ -72,7 +72,8 @@ impl Tag {
 #[derive(Clone, Copy, Debug, PartialEq, Eq)]
 pub enum Part {
     Directory,
-    Value(u16),
+    /// That of the planned entry at this place.
+    Value(usize),
     /// A strip or a tile.
     Piece(usize),
 }
@@ -124,6 +125,12 @@ impl Plan {
         self.tags.insert(at, tag);
     }
 
+    /// Adds the tag in its place, behind those with its number.
+    pub fn add(&mut self, tag: Tag) {
+        let at = self.tags.iter().filter(|known| known.tag <= tag.tag).count();
+        self.tags.insert(at, tag);
+    }
+
     pub fn remove(&mut self, tag: u16) {
         self.tags.retain(|known| known.tag != tag);
     }
@@ -170,8 +177,8 @@ impl Plan {
     /// All parts in the order they take in the file.
     fn parts(&self) -> Vec<Part> {
         let mut between = vec![Part::Directory];
-        let long = self.tags.iter().filter(|tag| self.size(tag) > 4);
-        between.extend(long.map(|tag| Part::Value(tag.tag)));
+        let long = (0..self.tags.len()).filter(|&at| self.size(&self.tags[at]) > 4);
+        between.extend(long.map(Part::Value));
         between.extend((0..self.pieces.len()).map(Part::Piece));
         if let Some(seed) = self.shuffle {
             Random::new(seed).shuffle(&mut between);
@@ -183,10 +190,7 @@ impl Plan {
     fn part_size(&self, part: Part) -> usize {
         match part {
             Part::Directory => 2 + 12 * self.tags.len() + 4,
-            Part::Value(tag) => {
-                let tag = self.tags.iter().find(|known| known.tag == tag).expect("a planned tag");
-                self.size(tag)
-            }
+            Part::Value(at) => self.size(&self.tags[at]),
             Part::Piece(piece) => self.pieces[piece] as usize,
         }
     }
@@ -243,7 +247,7 @@ impl Laid {
         let directory = start(Part::Directory).expect("a directory");
         let spot = |(at, tag): (usize, &Tag)| {
             let entry = directory + 2 + 12 * at;
-            let value = start(Part::Value(tag.tag)).unwrap_or(entry + 8);
+            let value = start(Part::Value(at)).unwrap_or(entry + 8);
             Spot { tag: tag.tag, entry, value, size: plan.size(tag) }
         };
         let piece = |at: usize| start(Part::Piece(at)).expect("a piece") as u32;
@@ -314,8 +318,14 @@ impl Laid {
         (self.spot(offsets), self.spot(byte_counts))
     }
 
+    /// The spot of a tag; of one that stands more than once, the first.
     pub fn spot(&self, tag: u16) -> Spot {
         self.spots.iter().find(|spot| spot.tag == tag).expect("a laid out tag").clone()
+    }
+
+    /// The spots of a tag, in the directory's order.
+    pub fn all(&self, tag: u16) -> Vec<Spot> {
+        self.spots.iter().filter(|spot| spot.tag == tag).cloned().collect()
     }
 
     pub fn put_short(&mut self, at: usize, number: u16) {

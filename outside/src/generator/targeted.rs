@@ -10,6 +10,7 @@ mod families;
 mod ground;
 mod head;
 mod keys;
+mod mosaics;
 mod pairs;
 mod pieces;
 mod tags;
@@ -28,6 +29,8 @@ pub enum Call {
     Rows(usize),
     /// Of this key.
     Citation(u32),
+    /// Of this number.
+    Metadata(u32),
     /// With so many bytes of output.
     Block(usize),
     /// On the three runs of a key block; the case has no file.
@@ -53,6 +56,7 @@ impl Case {
             Call::Judge => reader::judge_clause(&self.file),
             Call::Rows(lent) => reader::key_rows_clause(&self.file, *lent),
             Call::Citation(key) => reader::citation_clause(&self.file, *key),
+            Call::Metadata(number) => reader::metadata_clause(&self.file, *number),
             Call::Block(room) => reader::key_block_clause(&self.file, *room),
             Call::ReadBlock([directory, doubles, characters]) => {
                 reader::read_block_clause(directory, doubles, characters)
@@ -118,6 +122,7 @@ pub fn targeted(seed: u64) -> Vec<Case> {
         keys::cases(&mut bases, &mut cases);
         ground::cases(&mut bases, &mut cases);
         calls::cases(&mut bases, &mut cases);
+        mosaics::cases(&mut bases, &mut cases);
         pairs::cases(&mut bases, &mut cases);
     }
     blocks::cases(&mut cases);

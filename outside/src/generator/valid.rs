@@ -25,6 +25,20 @@ pub fn file(random: &mut Random) -> Laid {
     laid
 }
 
+/// The same with more than one metadata tag.
+pub fn mosaic(random: &mut Random) -> Laid {
+    let mut plan = plan(random);
+    texts(&mut plan, random);
+    let mut laid = plan.lay();
+    if random.chance(25) {
+        share_values(&mut laid, random);
+    }
+    if random.chance(25) {
+        share_texts(&mut laid);
+    }
+    laid
+}
+
 /// A plan that keeps every rule.
 pub fn plan(random: &mut Random) -> Plan {
     let mut plan = Plan::new(random.pick(&[Order::Little, Order::Big]));
@@ -42,6 +56,24 @@ pub fn plan(random: &mut Random) -> Plan {
     unknown_tags(&mut plan, random);
     arrange(&mut plan, random);
     plan
+}
+
+/// Two metadata tags or more, seldom as many as a directory has room for;
+/// their neighbours among the tags may stand beside them.
+fn texts(plan: &mut Plan, random: &mut Random) {
+    plan.remove(50909);
+    for tag in [50908, 50910] {
+        if random.chance(20) {
+            plan.set(Tag::bytes(tag, random.pick(&[1, 2, 7]), &random.bytes(9)));
+        }
+    }
+    let room = 1_024 - plan.tags.len();
+    let count = if random.chance(1) { room } else { random.pick(&[2, 2, 2, 3, 3, 3, 4, 5, 9, 30]) };
+    let sizes = random.pick(&[&[1, 2, 3, 4][..], &[5, 6, 17, 40], &[1, 4, 5, 6, 23]]);
+    for _ in 0..count {
+        let size = random.pick(sizes);
+        plan.add(Tag::bytes(50909, 1, &random.bytes(size)));
+    }
 }
 
 /// Bits, compression, photometric, samples and planar.
@@ -303,6 +335,14 @@ fn share_values(laid: &mut Laid, random: &mut Random) {
     }
     if random.chance(50) {
         overlap_pieces(laid);
+    }
+}
+
+/// Lets a metadata text lie in the one before, where it is no longer.
+fn share_texts(laid: &mut Laid) {
+    let texts = laid.all(50909);
+    for pair in texts.windows(2).filter(|pair| 4 < pair[1].size && pair[1].size <= pair[0].size) {
+        laid.put_long(pair[1].entry + 8, pair[0].value as u32);
     }
 }
 

@@ -2,11 +2,11 @@
 
 use super::block;
 use super::clauses::registered;
-use super::directory::Entry;
 use super::examine::{examine, Accepted};
 use super::ground::Georeference;
 use super::tables::*;
 use super::verdict::{refuse, Refusal, Verdict, ACCEPTED};
+use std::ops::Range;
 
 /// The answer on a whole file.
 #[derive(Clone, Copy, Debug, PartialEq)]
@@ -19,12 +19,12 @@ pub struct Judged {
 
 /// The verdict on a file, K, the georeference and the corners.
 pub fn judge(file: &[u8]) -> Judged {
-    judge_by(file, BOTH)
+    judge_by(file, IN_FORCE)
 }
 
-/// The same by rules that know these families of pieces only.
-pub fn judge_by(file: &[u8], families: &'static [Family]) -> Judged {
-    match examine(file, families) {
+/// The same by the rules as a request left them.
+pub fn judge_by(file: &[u8], rules: Rules) -> Judged {
+    match examine(file, rules) {
         Ok(accepted) => Judged {
             verdict: ACCEPTED,
             keys: accepted.keys.len() as u32,
@@ -49,7 +49,7 @@ fn named<T>(outcome: Result<T, Refusal>) -> (Verdict, &'static str) {
 }
 
 pub fn judge_clause(file: &[u8]) -> (Verdict, &'static str) {
-    named(examine(file, BOTH))
+    named(examine(file, IN_FORCE))
 }
 
 /// One key row: kind 0 SHORT, 1 DOUBLE, 2 ASCII, 3 other.
@@ -93,7 +93,7 @@ impl Accepted<'_> {
 
 /// Rules 1 to 22 and 27, then 23: the rows of a file for `lent` rows of room.
 fn rows_for(file: &[u8], lent: usize) -> Result<Vec<Row>, Refusal> {
-    let rows = examine(file, BOTH)?.rows();
+    let rows = examine(file, IN_FORCE)?.rows();
     if lent < rows.len() {
         return refuse(23, rows.len() as u32, "fewer rows than K");
     }
@@ -125,7 +125,7 @@ pub struct Cited {
 
 /// Rules 1 to 22 and 27, then 26: the row of the ASCII key asked for.
 fn cited_row(file: &[u8], key: u32) -> Result<Row, Refusal> {
-    let rows = examine(file, BOTH)?.rows();
+    let rows = examine(file, IN_FORCE)?.rows();
     let found = rows.iter().find(|row| row.key == key);
     let ascii = KEYS.iter().any(|row| u32::from(row.key) == key && row.kind == Kind::Ascii);
     match (found, ascii) {
@@ -151,7 +151,7 @@ pub fn citation_clause(file: &[u8], key: u32) -> (Verdict, &'static str) {
     named(cited_row(file, key))
 }
 
-/// The metadata text as a part of the file (0) or of the outside text (1).
+/// A metadata text as a part of the file (0) or of the outside text (1).
 #[derive(Clone, Copy, Debug, PartialEq, Eq)]
 pub struct Text {
     pub verdict: Verdict,
@@ -160,21 +160,52 @@ pub struct Text {
     pub length: usize,
 }
 
-/// The value of 50909 where present, else the whole outside text.
-pub fn metadata(file: &[u8], outside: &[u8]) -> Text {
-    let accepted = match examine(file, BOTH) {
-        Ok(accepted) => accepted,
-        Err(refusal) => return Text { verdict: refusal.verdict, from: 0, start: 0, length: 0 },
-    };
-    match accepted.directory.find(METADATA).and_then(Entry::value) {
-        Some(value) => Text {
+impl Accepted<'_> {
+    /// The values of all 50909, in the directory's order.
+    fn texts(&self) -> Vec<Range<u64>> {
+        let entries = self.directory.all(METADATA);
+        entries.map(|entry| entry.value().expect("rule 10 is kept")).collect()
+    }
+}
+
+/// How many 50909 an accepted file has; 0 for a refused one.
+pub fn texts(file: &[u8]) -> usize {
+    examine(file, IN_FORCE).map_or(0, |accepted| accepted.texts().len())
+}
+
+/// Rules 1 to 22 and 27, then 29: where the text of that number stands. None is
+/// the outside text, which is number 0 where there is no 50909 at all.
+fn text_of(file: &[u8], number: u32) -> Result<Option<Range<u64>>, Refusal> {
+    let texts = examine(file, IN_FORCE)?.texts();
+    if texts.is_empty() {
+        return match number {
+            0 => Ok(None),
+            _ => refuse(29, number, "no 50909 and not number 0"),
+        };
+    }
+    match texts.into_iter().nth(number as usize) {
+        Some(value) => Ok(Some(value)),
+        None => refuse(29, number, "not below the number of 50909"),
+    }
+}
+
+/// The value of the 50909 of that number, counting from 0, or the whole
+/// outside text.
+pub fn metadata(file: &[u8], outside: &[u8], number: u32) -> Text {
+    match text_of(file, number) {
+        Ok(Some(value)) => Text {
             verdict: ACCEPTED,
             from: 0,
             start: value.start as usize,
             length: (value.end - value.start) as usize,
         },
-        None => Text { verdict: ACCEPTED, from: 1, start: 0, length: outside.len() },
+        Ok(None) => Text { verdict: ACCEPTED, from: 1, start: 0, length: outside.len() },
+        Err(refusal) => Text { verdict: refusal.verdict, from: 0, start: 0, length: 0 },
     }
+}
+
+pub fn metadata_clause(file: &[u8], number: u32) -> (Verdict, &'static str) {
+    named(text_of(file, number))
 }
 
 /// The lengths in bytes of the three runs of a key block.
@@ -186,7 +217,7 @@ pub struct Block {
 
 /// Rules 1 to 22 and 27, then 24, then 25: the three runs of the key block.
 fn block_for(file: &[u8], room: usize) -> Result<[Vec<u8>; 3], Refusal> {
-    let accepted = examine(file, BOTH)?;
+    let accepted = examine(file, IN_FORCE)?;
     let runs = block::write(&accepted.runs, &accepted.keys)?;
     let bytes: usize = runs.iter().map(Vec::len).sum();
     if room < bytes {

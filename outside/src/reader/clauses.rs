@@ -18,6 +18,7 @@ pub const CLAUSES: &[&str] = &[
     // Rules 6 to 8, then 27: the entries, the next offset, the families of pieces.
     "6 equal tag",
     "6 smaller tag",
+    "6 50909 apart",
     "7 type 1 count 0",
     "7 type 1 odd",
     "7 type 1 below 8",
@@ -66,6 +67,10 @@ pub const CLAUSES: &[&str] = &[
     "7 type 12 odd",
     "7 type 12 below 8",
     "7 type 12 past n",
+    "7 a later 50909 count 0",
+    "7 a later 50909 odd",
+    "7 a later 50909 below 8",
+    "7 a later 50909 past n",
     "8 next offset",
     "27 both families",
     "27 neither family",
@@ -126,6 +131,8 @@ pub const CLAUSES: &[&str] = &[
     "10 34737 count",
     "10 50909 type",
     "10 50909 count",
+    "10 a later 50909 type",
+    "10 a later 50909 count",
     // Rule 11: each bound of each tag.
     "11 256 below",
     "11 256 above",
@@ -188,6 +195,7 @@ pub const CLAUSES: &[&str] = &[
     "14 strip on value of 34736",
     "14 strip on value of 34737",
     "14 strip on value of 50909",
+    "14 strip on value of a later 50909",
     "14 tile on head",
     "14 tile on directory",
     "14 tile on value of 256",
@@ -208,6 +216,7 @@ pub const CLAUSES: &[&str] = &[
     "14 tile on value of 34736",
     "14 tile on value of 34737",
     "14 tile on value of 50909",
+    "14 tile on value of a later 50909",
     // Rules 15 to 19 on a file: the keys.
     "15 under 4 numbers",
     "15 first number",
@@ -314,7 +323,7 @@ pub const CLAUSES: &[&str] = &[
     "22 affine second X NaN",
     "22 affine second Y infinite",
     "22 affine second Y NaN",
-    // Rules 23 to 26: the calls after acceptance.
+    // Rules 23 to 26 and 29: the calls after acceptance.
     "23 fewer rows than K",
     "24 start in 34735",
     "24 start in 34736",
@@ -323,6 +332,8 @@ pub const CLAUSES: &[&str] = &[
     "26 ASCII key absent",
     "26 present key not ASCII",
     "26 neither present nor ASCII",
+    "29 no 50909 and not number 0",
+    "29 not below the number of 50909",
     // Rules 15 to 19 on the three runs of a key block.
     "block 15 under 4 numbers",
     "block 15 first number",
@@ -390,6 +401,7 @@ pub const UNREACHABLE: &[(&str, &str)] = &[
     ("10 34736 count", "\"1 or more\": count 0 is refused by rule 7 first"),
     ("10 34737 count", "\"1 or more\": count 0 is refused by rule 7 first"),
     ("10 50909 count", "\"1 or more\": count 0 is refused by rule 7 first"),
+    ("10 a later 50909 count", "\"1 or more\": count 0 is refused by rule 7 first"),
     ("14 strip on head", "rule 13 asks for an offset of 8 or more first"),
     (
         "14 strip on value of 256",

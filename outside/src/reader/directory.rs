@@ -1,7 +1,7 @@
 //! The head and the directory of the file: rules 1 to 8 and 27.
 
 use super::number::{index, long, short, size_of_type, Order};
-use super::tables::{Family, Need, TagRow, BOTH, LONGEST, MOST_ENTRIES, TAGS};
+use super::tables::{Family, Need, Rules, TagRow, IN_FORCE, LONGEST, METADATA, MOST_ENTRIES, TAGS};
 use super::verdict::{refuse, Refusal};
 use std::ops::Range;
 
@@ -38,18 +38,17 @@ pub struct Directory<'a> {
     pub at: u64,
     pub entries: Vec<Entry>,
     pub next: u32,
-    /// The families of pieces that the rules know.
-    pub families: &'static [Family],
+    pub rules: Rules,
 }
 
 impl<'a> Directory<'a> {
     /// Rules 1 to 5.
-    pub fn open(file: &'a [u8], families: &'static [Family]) -> Result<Self, Refusal> {
+    pub fn open(file: &'a [u8], rules: Rules) -> Result<Self, Refusal> {
         let (order, at) = head(file)?;
         let count = rule5(file, order, at)?;
         let entries = (0..count).map(|number| entry(file, order, at + 2 + 12 * number)).collect();
         let next = long(order, file, at + 2 + 12 * count);
-        Ok(Directory { file, order, at, entries, next, families })
+        Ok(Directory { file, order, at, entries, next, rules })
     }
 
     pub fn n(&self) -> u64 {
@@ -62,13 +61,29 @@ impl<'a> Directory<'a> {
     }
 
     pub fn find(&self, tag: u16) -> Option<&Entry> {
-        self.entries.iter().find(|entry| entry.tag == tag)
+        self.all(tag).next()
+    }
+
+    /// The entries of a tag, in the directory's order.
+    pub fn all(&self, tag: u16) -> impl Iterator<Item = &Entry> {
+        self.entries.iter().filter(move |entry| entry.tag == tag)
+    }
+
+    /// What an entry is called: by its tag, and a further one of the same tag
+    /// as a later one.
+    pub fn named(&self, entry: &Entry) -> String {
+        let first = self.find(entry.tag).expect("an entry of the directory");
+        if first.at == entry.at {
+            entry.tag.to_string()
+        } else {
+            format!("a later {}", entry.tag)
+        }
     }
 
     /// The table of tags, with the rows of the known families only.
     pub fn table(&self) -> impl Iterator<Item = &'static TagRow> + '_ {
         TAGS.iter().filter(|row| match row.need {
-            Need::In(family) => self.families.contains(&family),
+            Need::In(family) => self.rules.families.contains(&family),
             _ => true,
         })
     }
@@ -81,21 +96,25 @@ impl<'a> Directory<'a> {
 
     /// The value bytes of every entry whose tag is in the table, of types 1 to
     /// 12.
-    pub fn listed_values(&self) -> Vec<(u16, Range<u64>)> {
+    pub fn listed_values(&self) -> Vec<(&Entry, Range<u64>)> {
         let in_table = |tag: u16| self.table().any(|row| row.tag == tag);
         let entries = self.entries.iter().filter(|entry| in_table(entry.tag));
-        entries.filter_map(|entry| Some((entry.tag, entry.value()?))).collect()
+        entries.filter_map(|entry| Some((entry, entry.value()?))).collect()
     }
 
-    /// Rule 6: each tag is greater than the one before.
+    /// Rule 6: each tag is greater than the one before, or equal to it where
+    /// it may stand more than once.
     pub fn rule6(&self) -> Result<(), Refusal> {
-        for pair in self.entries.windows(2) {
-            let later = u32::from(pair[1].tag);
-            if pair[1].tag == pair[0].tag {
-                return refuse(6, later, "equal tag");
+        for (before, pair) in self.entries.windows(2).enumerate() {
+            let tag = pair[1].tag;
+            let may = self.rules.repeated.contains(&tag);
+            if tag == pair[0].tag && !may {
+                return refuse(6, u32::from(tag), "equal tag");
             }
-            if pair[1].tag < pair[0].tag {
-                return refuse(6, later, "smaller tag");
+            if tag < pair[0].tag {
+                let again = may && self.entries[..before].iter().any(|entry| entry.tag == tag);
+                let apart = format!("{tag} apart");
+                return refuse(6, u32::from(tag), if again { &apart } else { "smaller tag" });
             }
         }
         Ok(())
@@ -105,7 +124,11 @@ impl<'a> Directory<'a> {
     pub fn rule7(&self) -> Result<(), Refusal> {
         for entry in &self.entries {
             if let Some(what) = value_fault(entry, self.n()) {
-                let clause = format!("type {} {what}", entry.kind);
+                let name = self.named(entry);
+                let clause = match name.starts_with("a later") {
+                    true => format!("{name} {what}"),
+                    false => format!("type {} {what}", entry.kind),
+                };
                 return refuse(7, u32::from(entry.tag), &clause);
             }
         }
@@ -123,13 +146,13 @@ impl<'a> Directory<'a> {
     /// The families of which some tag is present.
     fn present(&self) -> Vec<Family> {
         let present = |family: &Family| family.tags().any(|tag| self.find(tag).is_some());
-        self.families.iter().copied().filter(present).collect()
+        self.rules.families.iter().copied().filter(present).collect()
     }
 
     /// Rule 27: tags of just one family are present, and that is the family.
     /// Where the rules know one alone there is nothing to ask.
     pub fn rule27(&self) -> Result<Family, Refusal> {
-        match (self.families, &self.present()[..]) {
+        match (self.rules.families, &self.present()[..]) {
             (&[family], _) | (_, &[family]) => Ok(family),
             (_, []) => refuse(27, 0, "neither family"),
             _ => refuse(27, 0, "both families"),
@@ -140,7 +163,13 @@ impl<'a> Directory<'a> {
 /// The families of which a file carries some tag; none where rules 1 to 5 leave
 /// no directory to look in.
 pub fn families(file: &[u8]) -> Option<Vec<Family>> {
-    Some(Directory::open(file, BOTH).ok()?.present())
+    Some(Directory::open(file, IN_FORCE).ok()?.present())
+}
+
+/// Whether a file carries more than one 50909, of the directory that rules 1 to
+/// 5 leave.
+pub fn several_texts(file: &[u8]) -> bool {
+    Directory::open(file, IN_FORCE).is_ok_and(|found| found.all(METADATA).count() > 1)
 }
 
 /// Rules 1 to 4: the byte order and the directory's offset.

@@ -20,10 +20,10 @@ pub struct Accepted<'a> {
     pub corners: [f64; 4],
 }
 
-/// Rules 1 to 22 in order of number, with 27 directly after 8. The rules know
-/// these families of pieces only.
-pub fn examine<'a>(file: &'a [u8], families: &'static [Family]) -> Result<Accepted<'a>, Refusal> {
-    let directory = Directory::open(file, families)?;
+/// Rules 1 to 22 in order of number, with 27 directly after 8, as a request
+/// left them.
+pub fn examine(file: &[u8], rules: Rules) -> Result<Accepted<'_>, Refusal> {
+    let directory = Directory::open(file, rules)?;
     directory.rule6()?;
     directory.rule7()?;
     directory.rule8()?;

@@ -1,6 +1,6 @@
 //! The pieces, strips or tiles alike: rules 13 and 14.
 
-use super::directory::Directory;
+use super::directory::{Directory, Entry};
 use super::tables::Family;
 use super::tags::needed;
 use super::verdict::{refuse, Refusal};
@@ -39,12 +39,18 @@ pub fn rule13(directory: &Directory, pieces: &Pieces) -> Result<(), Refusal> {
     Ok(())
 }
 
-/// The full reading list with the name of each part; rule 7 is kept.
-fn full_list(directory: &Directory) -> Vec<(String, Range<u64>)> {
-    let mut list = vec![("head".to_string(), 0..8), ("directory".to_string(), directory.range())];
-    for (tag, value) in directory.listed_values() {
-        list.push((format!("value of {tag}"), value));
-    }
+/// A part of the reading list.
+enum Part<'d> {
+    Head,
+    Directory,
+    ValueOf(&'d Entry),
+}
+
+/// The full reading list; rule 7 is kept.
+fn full_list<'d>(directory: &'d Directory) -> Vec<(Part<'d>, Range<u64>)> {
+    let mut list = vec![(Part::Head, 0..8), (Part::Directory, directory.range())];
+    let values = directory.listed_values().into_iter();
+    list.extend(values.map(|(entry, value)| (Part::ValueOf(entry), value)));
     list
 }
 
@@ -58,7 +64,12 @@ pub fn rule14(directory: &Directory, pieces: &Pieces) -> Result<(), Refusal> {
     let list = full_list(directory);
     for (place, piece) in (0..).zip(&pieces.list) {
         if let Some((part, _)) = list.iter().find(|(_, range)| share(piece, range)) {
-            return refuse(14, place, &format!("{} on {part}", pieces.word));
+            let name = match part {
+                Part::Head => "head".to_string(),
+                Part::Directory => "directory".to_string(),
+                Part::ValueOf(entry) => format!("value of {}", directory.named(entry)),
+            };
+            return refuse(14, place, &format!("{} on {name}", pieces.word));
         }
     }
     Ok(())

@@ -3,17 +3,17 @@
 use super::directory::{head, Directory};
 use super::examine::examine;
 use super::number::index;
-use super::tables::{Family, BOTH};
+use super::tables::{Rules, IN_FORCE};
 use std::ops::Range;
 
 /// The reading list, as the verdict of rules 1 to 22 and 27 fixes it.
 pub fn reading_list(file: &[u8]) -> Vec<Range<u64>> {
-    reading_list_by(file, BOTH)
+    reading_list_by(file, IN_FORCE)
 }
 
-/// The reading list by rules that know these families only.
-pub fn reading_list_by(file: &[u8], families: &'static [Family]) -> Vec<Range<u64>> {
-    let number = match examine(file, families).map_err(|refusal| refusal.verdict.number) {
+/// The reading list by the rules as a request left them.
+pub fn reading_list_by(file: &[u8], rules: Rules) -> Vec<Range<u64>> {
+    let number = match examine(file, rules).map_err(|refusal| refusal.verdict.number) {
         Ok(_) => 0,
         // the list treats 27 as it treats 8
         Err(27) => 8,
@@ -25,7 +25,7 @@ pub fn reading_list_by(file: &[u8], families: &'static [Family]) -> Vec<Range<u6
     if let (true, Ok((_, at))) = (reached(5), head(file)) {
         list.push(at..at + 2);
     }
-    if let (true, Ok(directory)) = (reached(6), Directory::open(file, families)) {
+    if let (true, Ok(directory)) = (reached(6), Directory::open(file, rules)) {
         list.push(directory.range());
         if reached(8) {
             list.extend(directory.listed_values().into_iter().map(|(_, value)| value));

@@ -1,6 +1,6 @@
 //! The two tables: one for tags, document 01's with the four tags of tiles,
 //! and one for keys, each in ascending order. A later request adds its rows
-//! here.
+//! here. `Rules` has what a request changed beside them.
 
 /// The most entries a directory may have.
 pub const MOST_ENTRIES: u64 = 1_024;
@@ -108,10 +108,26 @@ pub enum Family {
     Tiles,
 }
 
-/// The families of document 01, where every picture is in strips.
-pub const STRIPS_ALONE: &[Family] = &[Family::Strips];
-/// The families of request C-11.
+/// Both families.
 pub const BOTH: &[Family] = &[Family::Strips, Family::Tiles];
+
+/// What tells the rules of one request from those before it.
+#[derive(Clone, Copy, Debug)]
+pub struct Rules {
+    /// The families of pieces that are known.
+    pub families: &'static [Family],
+    /// The tags that rule 6 lets stand side by side.
+    pub repeated: &'static [u16],
+}
+
+/// Every picture is in strips, and no tag stands twice.
+pub const DOCUMENT_01: Rules = Rules { families: &[Family::Strips], repeated: &[] };
+/// With tiles.
+pub const C_11: Rules = Rules { families: BOTH, ..DOCUMENT_01 };
+/// With more than one metadata tag.
+pub const C_12: Rules = Rules { repeated: &[METADATA], ..C_11 };
+/// The rules that every call goes by.
+pub const IN_FORCE: Rules = C_12;
 
 impl Family {
     /// What one piece is called.

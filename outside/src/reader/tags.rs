@@ -37,20 +37,22 @@ pub fn rule9(directory: &Directory, family: Family) -> Result<(), Refusal> {
     Ok(())
 }
 
-/// The present tags of the table, lowest first.
+/// The present tags of the table, lowest first, with each entry of a tag.
 fn present<'d>(directory: &'d Directory) -> impl Iterator<Item = (&'static TagRow, &'d Entry)> {
-    directory.table().filter_map(|row| Some((row, directory.find(row.tag)?)))
+    directory.table().flat_map(|row| directory.all(row.tag).map(move |entry| (row, entry)))
 }
 
-/// Rule 10: each present tag of the table has its type and count.
+/// Rule 10: each entry of a present tag of the table has its type and count.
 pub fn rule10(directory: &Directory) -> Result<(), Refusal> {
     for (row, entry) in present(directory) {
-        let place = u32::from(row.tag);
+        let fault = |what: &str| {
+            refuse(10, u32::from(row.tag), &format!("{} {what}", directory.named(entry)))
+        };
         if !row.kinds.contains(&entry.kind) {
-            return refuse(10, place, &format!("{} type", row.tag));
+            return fault("type");
         }
         if !row.count.holds(entry.count) {
-            return refuse(10, place, &format!("{} count", row.tag));
+            return fault("count");
         }
     }
     Ok(())

@@ -49,6 +49,19 @@ pub const VARIETIES: &[&str] = &[
     "50909 in its entry",
     "50909 at an offset",
     "50909 absent",
+    "50909 twice",
+    "50909 more than twice",
+    "50909 in all entries that are left",
+    "50909 in its entry and at an offset",
+    "a later 50909 in its entry",
+    "a later 50909 at an offset",
+    "50908 before and 50910 behind several 50909",
+    "texts share bytes",
+    "a later text ends at n",
+    "strip ends where a later text starts",
+    "strip starts where a later text ends",
+    "tile ends where a later text starts",
+    "tile starts where a later text ends",
     "284 present",
     "284 absent",
     "unknown tag",
@@ -122,9 +135,10 @@ pub const VARIETIES: &[&str] = &[
 
 /// The labels of a file; none for a refused one.
 pub fn varieties(file: &[u8]) -> Vec<&'static str> {
-    let Ok(accepted) = examine(file, BOTH) else { return Vec::new() };
+    let Ok(accepted) = examine(file, IN_FORCE) else { return Vec::new() };
     let mut labels = Vec::new();
     labels.extend(of_tags(&accepted));
+    labels.extend(of_texts(&accepted));
     labels.extend(of_layout(&accepted));
     labels.extend(of_pieces(&accepted));
     labels.extend(of_tiles(&accepted));
@@ -175,6 +189,48 @@ fn of_tags(accepted: &Accepted) -> Vec<String> {
         (
             directory.entries.iter().any(|e| e.value().is_none() && e.count == 0),
             "unknown type with count 0",
+        ),
+    ]));
+    labels
+}
+
+/// How several metadata texts stand; nothing for a file of one or none.
+fn of_texts(accepted: &Accepted) -> Vec<String> {
+    let (directory, word) = (&accepted.directory, accepted.family.word());
+    let entries: Vec<&Entry> = directory.all(METADATA).collect();
+    if entries.len() < 2 {
+        return Vec::new();
+    }
+    let short = entries.iter().filter(|entry| entry.in_entry()).count();
+    let far = |entries: &[&Entry]| -> Vec<Range<u64>> {
+        let far = entries.iter().filter(|entry| !entry.in_entry());
+        far.filter_map(|entry| entry.value()).collect()
+    };
+    let later = far(&entries[1..]);
+    let beside = |touch: &dyn Fn(&Range<u64>, &Range<u64>) -> bool| {
+        accepted.pieces.list.iter().any(|piece| later.iter().any(|text| touch(piece, text)))
+    };
+    let has = |tag: u16| directory.find(tag).is_some();
+    let all = directory.entries.len() as u64 == MOST_ENTRIES;
+    let mut labels = chosen(&[
+        (entries.len() == 2, "50909 twice"),
+        (entries.len() > 2, "50909 more than twice"),
+        (all, "50909 in all entries that are left"),
+        (0 < short && short < entries.len(), "50909 in its entry and at an offset"),
+        (entries[1..].iter().any(|entry| entry.in_entry()), "a later 50909 in its entry"),
+        (!later.is_empty(), "a later 50909 at an offset"),
+        (has(50908) && has(50910), "50908 before and 50910 behind several 50909"),
+        (pairwise_share(&far(&entries)), "texts share bytes"),
+        (later.iter().any(|text| text.end == directory.n()), "a later text ends at n"),
+    ]);
+    labels.extend(chosen(&[
+        (
+            beside(&|piece, text| piece.end == text.start),
+            format!("{word} ends where a later text starts"),
+        ),
+        (
+            beside(&|piece, text| text.end == piece.start),
+            format!("{word} starts where a later text ends"),
         ),
     ]));
     labels

@@ -8,7 +8,7 @@ pub struct Verdict {
 }
 
 /// The numbers that a judgement of a file can give: 0, and rules 1 to 22 and 27.
-/// The calls have 23 to 26 besides.
+/// The calls have 23 to 26 and 29 besides.
 pub fn judgements() -> impl Iterator<Item = u32> {
     (0..=22).chain([27])
 }

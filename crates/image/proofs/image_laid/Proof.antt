@@ -65,15 +65,18 @@ returns-2 c =
 
 image-columns-requires : tie.Need-image-columns-requires
 image-columns-requires c κs =
-    let o = c .before .before .before .before .before .before .before .before .before .before .before .before .before .before .before .before .before .pre in
-    let s = rw (part-cut o) at (c .before .before .before .before .before .before .before .before .scan .ensures) in
-    scan-passed o (s .0) (c .before .before .before .before .before .before .if1 .left) (s .1 .0) (s .1 .1 .0) (s .1 .1 .1 .0) (s .1 .1 .1 .1)
+    let l = c .before .before .before .before .before .before .before in
+    let o = l .before .before .before .before .before .before .before .before .before .before .before .pre in
+    let s = rw (part-cut o) at (l .before .before .scan .ensures) in
+    scan-passed o (s .0) (l .if1 .left) (s .1 .0) (s .1 .1 .0) (s .1 .1 .1 .0) (s .1 .1 .1 .1)
 
 returns-3 : tie.Need-returns-3
 returns-3 c =
-    let o = c .before .before .before .before .before .before .before .before .before .before .before .before .before .before .before .before .before .before .pre in
-    let s = rw (part-cut o) at (c .before .before .before .before .before .before .before .before .before .scan .ensures) in
-    c .image-columns .ensures ∙ scan-good o (s .0) (c .before .before .before .before .before .before .before .if1 .left) (c .before .before .before .before .before .if2 .left)
+    let n = c .before .before .before .before .before .before in
+    let l = n .before .before in
+    let o = l .before .before .before .before .before .before .before .before .before .before .before .pre in
+    let s = rw (part-cut o) at (l .before .before .scan .ensures) in
+    c .image-columns .ensures ∙ scan-good o (s .0) (l .if1 .left) (n .if2 .left)
 
 pub image-laid-spec : {M : Type 1} → statement M
 image-laid-spec =

@@ -1,5 +1,7 @@
 -- `judge_pieces` hands the runs of the pieces and the columns' parts to the pass over the places. Assumes nothing.
+use native.Mathlib.Omega.{arith}
 use borrow.Author.Needs.{needs}
+use Rattle.tags.proofs.Answers.{later-holds}
 use Rattle.image.proofs.Placing.{slot-within, places-asked, pieces-seen}
 use Rattle.image.proofs.judge_pieces.Statement.{statement}
 use Rattle.image.proofs.judge_pieces.Tie as tie
@@ -46,6 +48,17 @@ outer-requires c κs = search needs
 outer-requires-2 : tie.Need-outer-requires-2
 outer-requires-2 c κs = search needs
 
+mul-value-5 : tie.Need-mul-value-5
+mul-value-5 c =
+    let p = c .before .before .before .before .before .before .before .before .before .before .before .before .pre .passed in
+    let l = later-holds (p .ready) (p .behind) .few in
+    omega arith
+
+value-requires-3 : tie.Need-value-requires-3
+value-requires-3 c κs =
+    let p = c .before .before .before .before .before .before .before .before .before .before .before .before .pre .passed in
+    later-holds (p .ready) (p .behind) .room
+
 mul-judge-places : tie.Need-mul-judge-places
 mul-judge-places c = search needs
 
@@ -72,21 +85,21 @@ slice-aggregate-judge-places-2 c = search needs
 
 judge-places-requires : tie.Need-judge-places-requires
 judge-places-requires c κs =
-    let o = c .before .before .before .before .before in
+    let o = c .before .before .before .before .before .before .before in
     let v = o .before .before in
     let w = v .before .before .before in
     let s = w .before .before .before in
     places-asked (s .before .before .before .pre) (s .before .offsets-slot .ensures .0) (s .byte-counts-slot .ensures .0) (w .value .ensures) (v .value2 .ensures)
-    (o .before .outer .ensures) (o .outer2 .ensures)
+    (o .before .outer .ensures) (o .outer2 .ensures) (c .before .before .before .before .before .value3 .ensures)
 
 returns : tie.Need-returns
 returns c =
-    let o = c .before .before .before .before .before .before in
+    let o = c .before .before .before .before .before .before .before .before in
     let v = o .before .before in
     let w = v .before .before .before in
     let s = w .before .before .before in
     pieces-seen (s .before .before .before .pre) (s .before .offsets-slot .ensures .0) (s .byte-counts-slot .ensures .0) (w .value .ensures) (v .value2 .ensures)
-    (o .before .outer .ensures) (o .outer2 .ensures) _ (c .judge-places .ensures)
+    (o .before .outer .ensures) (o .outer2 .ensures) (c .before .before .before .before .before .before .value3 .ensures) _ (c .judge-places .ensures)
 
 pub judge-pieces-spec : {M : Type 1} → statement M
 judge-pieces-spec =
@@ -106,6 +119,8 @@ judge-pieces-spec =
     value-requires-2
     outer-requires
     outer-requires-2
+    mul-value-5
+    value-requires-3
     mul-judge-places
     element-copy-out-judge-places
     mul-judge-places-2

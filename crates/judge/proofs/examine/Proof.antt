@@ -69,12 +69,13 @@ returns-2 c =
 
 returns-3 : tie.Need-returns-3
 returns-3 c =
-    let v = c .before .before .before in
+    let s = c .before in
+    let v = s .before .before .before in
     let u = v .before .before .before in
     let i = u .before .before .before .before in
     both-good _ (i .before .before .before .before .before .judge-image .ensures) (i .before .before .before .if1 .left)
     (u .before .before .value .ensures) (u .before .value2 .ensures) (u .value3 .ensures)
-    (v .before .before .value4 .ensures) (v .before .value5 .ensures) (v .value6 .ensures) (c .before .before .judge-survey .ensures) (c .if2 .left)
+    (v .before .before .value4 .ensures) (v .before .value5 .ensures) (v .value6 .ensures) (s .before .before .judge-survey .ensures) (s .if2 .left)
 
 pub examine-spec : {M : Type 1} → statement M
 examine-spec =

@@ -3,7 +3,7 @@ use mathlib.Core.Path.{sym, _∙_}
 use native.Mathlib.Omega.{arith}
 use borrow.Author.Needs.{needs}
 use Rattle.layout.proofs.Sizes.{len-of}
-use Rattle.layout.proofs.Turns.{Passing, pass-start, turn-in, turn-out, pass-end}
+use Rattle.layout.proofs.Turns.{Passing, pass-start, turn-in, turn-out, pass-known, pass-end}
 use Rattle.layout.proofs.scan.Statement.{statement}
 use Rattle.layout.proofs.scan.Tie as tie
 
@@ -81,14 +81,18 @@ loop-less-2 c = omega arith
 loop-again-2 : tie.Need-loop-again-2 Inv-loop μ-loop
 loop-again-2 c = search turn-out
 
+judge-order-requires : tie.Need-judge-order-requires Inv-loop μ-loop
+judge-order-requires c κs =
+    (search needs, search needs, omega arith, c .before .loop .inv .near6, pass-known (c .before .loop .inv) (c .loop-test .left))
+
 told-requires : tie.Need-told-requires Inv-loop μ-loop
-told-requires c κs = c .before .loop .inv .near7
+told-requires c κs = c .before .before .before .loop .inv .near7
 
 or-else-requires : tie.Need-or-else-requires Inv-loop μ-loop
 or-else-requires c κs = tt
 
 told-requires-2 : tie.Need-told-requires-2 Inv-loop μ-loop
-told-requires-2 c κs = c .before .before .before .loop .inv .near6
+told-requires-2 c κs = c .before .before .before .judge-order .ensures .low
 
 or-else-requires-2 : tie.Need-or-else-requires-2 Inv-loop μ-loop
 or-else-requires-2 c κs = tt
@@ -102,14 +106,15 @@ add-long c = omega arith
 long-requires : tie.Need-long-requires Inv-loop μ-loop
 long-requires c κs = omega arith
 
-cast-t38 : tie.Need-cast-t38 Inv-loop μ-loop
-cast-t38 c = omega arith
+cast-t40 : tie.Need-cast-t40 Inv-loop μ-loop
+cast-t40 c = omega arith
 
 returns : tie.Need-returns Inv-loop μ-loop
 returns c =
-    let l = c .before .before .before .before .before in
-    pass-end (l .before .loop .inv) (l .loop-test .left) (c .before .before .before .before .told .ensures) (c .before .before .before .or-else .ensures)
-    (c .before .before .told2 .ensures) (c .before .or-else2 .ensures) (c .long .ensures .0)
+    let o = c .before .before .before .before .before .before in
+    let l = o .before in
+    pass-end (l .before .loop .inv) (l .loop-test .left) (o .judge-order .ensures) (c .before .before .before .before .told .ensures)
+    (c .before .before .before .or-else .ensures) (c .before .before .told2 .ensures) (c .before .or-else2 .ensures) (c .long .ensures .0)
 
 pub scan-spec : {M : Type 1} → statement M
 scan-spec =
@@ -139,6 +144,7 @@ scan-spec =
     loop-again
     loop-less-2
     loop-again-2
+    judge-order-requires
     told-requires
     or-else-requires
     told-requires-2
@@ -146,5 +152,5 @@ scan-spec =
     mul-long
     add-long
     long-requires
-    cast-t38
+    cast-t40
     returns)

@@ -20,7 +20,7 @@ returns c =
           ap (λ (x : Text). x .from) s,
           (
             ap (λ (x : Text). x .start) s,
-            (ap (λ (x : Text). x .len) s, (cut (a .file .now) (a .outside .now) (c .text .result) s, c .text .ensures .1)),
+            (ap (λ (x : Text). x .len) s, (cut (a .file .now) (a .outside .now) (a .number) (c .text .result) s, c .text .ensures .1)),
           ),
         ),
       ),

@@ -2,13 +2,15 @@
 use borrow.Author.Needs.{needs}
 use native.Mathlib.Omega.{arith}
 use Prim.Native.Nat.{_≤_}
+use mathlib.Core.List.{[]}
+use Rattle.pieces.specs.Gaps.{partAt}
 use Rattle.pieces.proofs.Gaps.{Around}
 use Rattle.pieces.proofs.Answers.{partsFrom, gap-start, gap-end, gap-turn, end-fits}
 use Rattle.pieces.proofs.gap_of.Statement.{statement}
 use Rattle.pieces.proofs.gap_of.Tie as tie
 
 abbrev Inv-loop : tie.InvT-loop
-Inv-loop starts lens m n byte lo₀ hi₀ j₀ lo hi j = (j ≤ m) × (Around byte n (partsFrom starts lens m j) lo hi)
+Inv-loop starts lens m n byte lo₀ hi₀ j₀ lo hi j = (j ≤ m) × (Around byte n (partsFrom (partAt starts lens) m [] j) lo hi)
 
 abbrev μ-loop : tie.MeasureT-loop
 μ-loop starts lens m n byte lo₀ hi₀ j₀ lo hi j = j
@@ -38,7 +40,9 @@ lowered-requires : tie.Need-lowered-requires Inv-loop μ-loop
 lowered-requires c κs = tt
 
 add-raised : tie.Need-add-raised Inv-loop μ-loop
-add-raised c = search (needs, end-fits)
+add-raised c =
+    let p = c .before .before .before .before .before .before .before .before .pre in
+    search (needs, end-fits, p .2, p .3)
 
 raised-requires : tie.Need-raised-requires Inv-loop μ-loop
 raised-requires c κs = tt

@@ -23,7 +23,7 @@ returns : tie.Need-returns
 returns c =
     let a = c .before .before .before .before .before .before .args in
     let s = c .before .before .before .text .ensures .0 in (
-      c .value .ensures ∙ of-file (a .file .now) (a .outside .now) _ s (c .before .if1 .taken),
+      c .value .ensures ∙ of-file (a .file .now) (a .outside .now) (a .number) _ s (c .before .if1 .taken),
       (ap (λ (x : Text). x .verdict .number) s, ap (λ (x : Text). x .verdict .place) s),
     )
 
@@ -31,7 +31,7 @@ returns-2 : tie.Need-returns-2
 returns-2 c =
     let a = c .before .before .before .before .before .before .args in
     let s = c .before .before .before .text .ensures .0 in (
-      c .value2 .ensures ∙ of-outside (a .file .now) (a .outside .now) _ s (c .before .if1 .left),
+      c .value2 .ensures ∙ of-outside (a .file .now) (a .outside .now) (a .number) _ s (c .before .if1 .left),
       (ap (λ (x : Text). x .verdict .number) s, ap (λ (x : Text). x .verdict .place) s),
     )
 

@@ -3,6 +3,7 @@
 use super::bases::Bases;
 use super::Cases;
 use crate::generator::plan::{Laid, Tag};
+use crate::reader::tables::METADATA;
 
 pub fn cases(bases: &mut Bases, cases: &mut Cases) {
     tag_order(bases, cases);
@@ -24,9 +25,8 @@ fn tag_order(bases: &mut Bases, cases: &mut Cases) {
     cases.kept("6 smaller tag", laid.bytes.clone());
     for pair in laid.spots.windows(2) {
         let before = pair[0].tag;
-        for (tag, clause) in
-            [(before, "6 equal tag"), (before - 1, "6 smaller tag"), (0, "6 smaller tag")]
-        {
+        let equal = [(before, "6 equal tag")].into_iter().filter(|(tag, _)| *tag != METADATA);
+        for (tag, clause) in equal.chain([(before - 1, "6 smaller tag"), (0, "6 smaller tag")]) {
             let mut laid = laid.clone();
             laid.put_short(pair[1].entry, tag);
             cases.broken(clause, laid.bytes, u32::from(tag));

@@ -1,8 +1,10 @@
 //! Two rules broken at once in one file: the one of lower number is named, 27
 //! between 8 and 9. And tags of rule 12 at fault together: the lowest is named.
+//! And texts asked for by a number that no text has: rule 29 is the last.
 
 use super::bases::Bases;
-use super::Cases;
+use super::mosaics::{mosaic, LONG};
+use super::{rule_of, Call, Cases};
 use crate::generator::plan::{Laid, Plan, Tag};
 use crate::reader::tables::Family;
 
@@ -76,9 +78,60 @@ const OF_TILES: [Disagreement; 2] = [
     }),
 ];
 
+/// Damages of a mosaic that a later one of its metadata tags has alone.
+const OF_LATER: [Damage; 4] = [
+    ("6 50909 apart", 50_909, |laid| laid.put_short(laid.all(50_909)[1].entry, 50_910)),
+    ("7 a later 50909 count 0", 50_909, |laid| laid.put_long(laid.all(50_909)[2].entry + 4, 0)),
+    ("10 a later 50909 type", 50_909, |laid| laid.put_short(laid.all(50_909)[1].entry + 2, 2)),
+    ("14 piece on value of a later 50909", 0, |laid| {
+        let (offsets, byte_counts) = laid.places();
+        laid.put_long(offsets.value, laid.all(50_909)[2].value as u32);
+        laid.put_long(byte_counts.value, 1);
+    }),
+];
+
 pub fn cases(bases: &mut Bases, cases: &mut Cases) {
     rules_together(bases, cases);
     tags_together(bases, cases);
+    later_texts_together(bases, cases);
+    numbers_last(bases, cases);
+}
+
+/// A later metadata tag at fault, with itself alone and with each other rule.
+fn later_texts_together(bases: &mut Bases, cases: &mut Cases) {
+    let order = |rule: u32| DAMAGES.iter().position(|damage| rule_of(damage.0) == rule);
+    for of_later in &OF_LATER {
+        let alone = [of_later].into_iter();
+        let others = DAMAGES.iter().filter(|other| rule_of(other.0) != rule_of(of_later.0));
+        for other in alone.chain(others) {
+            let first = order(rule_of(other.0)) < order(rule_of(of_later.0));
+            let (clause, place, _) = if first { other } else { of_later };
+            let mut laid = mosaic(bases, &LONG).lay();
+            other.2(&mut laid);
+            of_later.2(&mut laid);
+            cases.broken(&clause.replace("piece", bases.family.word()), laid.bytes, *place);
+        }
+    }
+}
+
+/// Every rule of the file comes before 29, in a file of one text and in one of
+/// three, and names the same place in both.
+fn numbers_last(bases: &mut Bases, cases: &mut Cases) {
+    for (clause, place, damage) in &DAMAGES {
+        let clause = clause.replace("piece", bases.family.word());
+        for plan in [bases.rich(), mosaic(bases, &LONG)] {
+            let mut laid = plan.lay();
+            damage(&mut laid);
+            cases.broken(&clause, laid.bytes.clone(), *place);
+            for number in [0, 1, 3, u32::MAX] {
+                let want = (rule_of(&clause), *place);
+                cases.add(&clause, true, Call::Metadata(number), laid.bytes.clone(), want);
+            }
+        }
+    }
+    for number in [0, 1, u32::MAX] {
+        cases.add("1 n below 8", true, Call::Metadata(number), Vec::new(), (1, 0));
+    }
 }
 
 /// Every choice of two, three or four of rule 12's tags, each in both ways; the

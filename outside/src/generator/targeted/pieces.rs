@@ -22,12 +22,12 @@ fn thirteen(family: Family, what: &str) -> String {
 }
 
 /// The clause of rule 14 for a part of the list.
-fn fourteen(family: Family, part: &str) -> String {
+pub fn fourteen(family: Family, part: &str) -> String {
     format!("14 {} on {part}", family.word())
 }
 
 /// The file with one piece's offset and byte count set; both tags are LONG.
-fn with_piece(laid: &Laid, piece: usize, offset: usize, count: usize) -> Laid {
+pub fn with_piece(laid: &Laid, piece: usize, offset: usize, count: usize) -> Laid {
     let mut laid = laid.clone();
     let (offsets, counts) = laid.places();
     laid.put_long(offsets.value + 4 * piece, offset as u32);
@@ -129,16 +129,17 @@ fn several_faults(bases: &mut Bases, cases: &mut Cases) {
 }
 
 /// A part of the list: the clause of rule 14 for it, its first byte and its end.
-type Listed = (String, usize, usize);
+pub type Listed = (String, usize, usize);
 
 /// The parts of the full list outside the head: the directory, then the
 /// values outside their entries.
-fn parts(family: Family, laid: &Laid) -> Vec<Listed> {
+pub fn parts(family: Family, laid: &Laid) -> Vec<Listed> {
     let end = laid.directory + 2 + 12 * laid.spots.len() + 4;
     let mut parts = vec![(fourteen(family, "directory"), laid.directory, end)];
     let listed = |tag: u16| TAGS.iter().any(|row| row.tag == tag);
     for spot in laid.spots.iter().filter(|spot| spot.size > 4 && listed(spot.tag)) {
-        let clause = fourteen(family, &format!("value of {}", spot.tag));
+        let later = if spot.entry == laid.spot(spot.tag).entry { "" } else { "a later " };
+        let clause = fourteen(family, &format!("value of {later}{}", spot.tag));
         parts.push((clause, spot.value, spot.value + spot.size));
     }
     parts
@@ -146,7 +147,7 @@ fn parts(family: Family, laid: &Laid) -> Vec<Listed> {
 
 /// Piece `piece` at both ends of a part, with no byte and with one byte
 /// shared, inside it and around it. Four free bytes stand around each part.
-fn around(laid: &Laid, piece: usize, part: &Listed, cases: &mut Cases) {
+pub fn around(laid: &Laid, piece: usize, part: &Listed, cases: &mut Cases) {
     let (clause, start, end) = part;
     for (offset, count) in [(start - 2, 2), (start - 1, 1), (*end, 1), (*end, 2)] {
         cases.kept(clause, with_piece(laid, piece, offset, count).bytes);

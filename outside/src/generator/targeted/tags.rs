@@ -85,7 +85,7 @@ fn base_with(bases: &mut Bases, tag: u16) -> Plan {
 }
 
 /// A tag of any type and count with a value of zeros.
-fn zeros(tag: u16, kind: u16, count: u32) -> Tag {
+pub fn zeros(tag: u16, kind: u16, count: u32) -> Tag {
     const SIZES: [usize; 12] = [1, 1, 2, 4, 8, 1, 1, 2, 4, 8, 4, 8];
     match kind {
         1..=12 => {
