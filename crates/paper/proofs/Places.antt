@@ -18,6 +18,7 @@ use Rattle.paper.specs.Keys.{fixedKeys, rule15, rule16, rule17, rule18, 
 use Rattle.paper.specs.Ground.{rule20, rule21, rule22}
 use Rattle.paper.specs.Judge.{View, headOf, headIn, viewAt, view, piecesOf, verdictOf, rules}
 use Rattle.paper.specs.Places.{In, FirstFault, Lowest, FirstPiece, LowestFault, pairsFrom, pairs, outOfOrder, FirstFall, placeless, Places, Placed}
+use Rattle.paper.proofs.Several.{ordered-more}
 use Rattle.paper.proofs.Laws.{and-eq}
 use Rattle.paper.proofs.First.{verdict-rules, ruled}
 use Rattle.paper.proofs.Tables.{table-order, fixed-order}
@@ -95,15 +96,6 @@ module _ {A : Type 0} (bad : A → Bool) (place : A → ℕ) where
 
   -- ---- the lowest at fault, where the places ascend
 
-  ascending-more : (x : A) (xs : List A) → ascending (map place (x ∷ xs)) ≡ kept → ascending (map place xs) ≡ kept
-  unfolding ordered orderedFrom
-  ascending-more x [] h = refl
-  ascending-more x (y ∷ xs) h = go (ltb (place x) (place y)) refl
-    where
-      go : (b : Bool) → ltb (place x) (place y) ≡ b → ascendingFrom (place y) (map place xs) ≡ kept
-      go true e = rw e at h
-      go false e = let w : broken (place y) ≡ kept = rw e at h in cc
-
   ascending-in : (a : ℕ) (xs : List A) → ascendingFrom a (map place xs) ≡ kept → (x : A) → In x xs → a < place x
   unfolding orderedFrom
   ascending-in a [] h = λ x i. absurd (in-none x i)
@@ -138,7 +130,7 @@ module _ {A : Type 0} (bad : A → Bool) (place : A → ℕ) where
       go (y ∷ b) n a =
           let e : bad y ≡ false = n y (record { before = []; behind = b; split = refl }) in
           in-cases (λ x. bad x ≡ true → p ≤ place x) y (b ++ (w .it ∷ w .behind)) (λ t. absurd (false≢true (sym e ∙ t)))
-          (go b (λ x i. n x (in-more y x b i)) (ascending-more y (b ++ (w .it ∷ w .behind)) a))
+          (go b (λ x i. n x (in-more y x b i)) (ordered-more ltb (place y) (map place (b ++ (w .it ∷ w .behind))) a))
 
   -- ---- places that count from 0
 

@@ -2,7 +2,7 @@
 -- it was before C-12 is not broken at 50909, it is rule 6 as it is. Assumes nothing.
 use Prim.Native.Nat.{ℕ, suc, _≤_}
 use mathlib.Core.Path.{_≡_, refl, sym, ap, _∙_}
-use mathlib.Core.Bool.{Bool, true, false, cond, not, _&&_, _||_, false≢true}
+use mathlib.Core.Bool.{Bool, true, false, cond, not, _&&_, _||_, false≢true, or-false}
 use mathlib.Core.List.{List, [], _∷_, map}
 use native.Mathlib.Omega.{arith}
 use lib.Dec.{eqb, ltb}
@@ -130,11 +130,7 @@ module _ {A : Type 0} (tag : A → ℕ) (follows : ℕ → ℕ → Bool) (t : �
 pub once : (follows : ℕ → ℕ → Bool) (t : ℕ) → Rises follows t → eqb 0 t ≡ false → (bad : Held → Bool) (hs : List Held) → ordered follows (tagsOf hs) ≡ kept
     → some (λ h. ofTag t h && bad h) hs ≡ has t hs && bad (find t hs)
 unfolding some
-once follows t rises z bad hs h = first-or-later t z bad hs ∙ rw (no-other (λ x. x .entry .tag) follows t rises hs h) (or-none (has t hs && bad (find t hs)))
-  where
-    or-none : (b : Bool) → b || false ≡ b
-    or-none true = refl
-    or-none false = refl
+once follows t rises z bad hs h = first-or-later t z bad hs ∙ rw (no-other (λ x. x .entry .tag) follows t rises hs h) (or-false (has t hs && bad (find t hs)))
 
 -- entries with their bytes, without them
 pub entries-held : (tb : List Line) (f : List ℕ) (es : List Entry) → map (λ h. h .entry) (map (hold tb f) es) ≡ es

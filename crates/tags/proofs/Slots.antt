@@ -2,7 +2,7 @@
 -- A tag is present exactly where its start is not 0. Assumes nothing.
 use Prim.Native.Nat.{ℕ, zero, suc, _+_, _-_, _*_, _≤_, _<_}
 use mathlib.Core.Path.{_≡_, refl, sym, ap, ap₂, _∙_, subst}
-use mathlib.Core.Bool.{Bool, true, false, cond, not, _&&_, _||_, Bool·not-not}
+use mathlib.Core.Bool.{Bool, true, false, cond, not, _&&_, _||_, Bool·not-not, or-false as or-none}
 use mathlib.Core.List.{List, [], _∷_, _++_, map, map-map}
 use native.Mathlib.Nat.{not-suc-le-zero, le-of-suc-le-suc, zero-mul, zero-add}
 use native.Mathlib.Omega.{arith}
@@ -139,10 +139,6 @@ first-slots bad test h =
     ∙ first-same (λ (k : ℕ). bad (lineAt k)) test tagAt slots 0 (λ i l. h (getD slots i 0) (ltb-true _ 21 (all-at (λ (k : ℕ). ltb k 21) slots 0 slots-low i l))))
 
 -- a test of which the last line has one more
-or-none : (b : Bool) → b || false ≡ b
-or-none true = refl
-or-none false = refl
-
 first-late : (test : ℕ → Bool) (m : Bool) (z : ℕ) (ks : List ℕ) → all (λ k. not (eqb k z)) ks ≡ true
     → firstBad (λ k. test k || (eqb k z && m)) tagAt (ks ++ (z ∷ [])) ≡ firstOf (firstBad test tagAt (ks ++ (z ∷ [])) ∷ breaks m (tagAt z) ∷ [])
 unfolding firstBad firstOf all
