@@ -1,5 +1,5 @@
--- What one pass over a directory finds of the table's tags: a column of numbers for each field of an entry, in the table's order; and the
--- full reading list as two columns. Assumes nothing.
+-- What one pass over a directory finds of the table's tags: a column of numbers for each field of the first entry of each, in the table's order; and the
+-- reading list as two columns, but for the further entries of 50909. Assumes nothing.
 use Prim.Native.Nat.{ℕ}
 use mathlib.Core.Bool.{cond}
 use mathlib.Core.List.{List, [], _∷_, _++_, map}

@@ -1,4 +1,4 @@
--- Document 01, the table of tags, with request C-11's tags of tiles, and rules 27 and 9 to 12. From here on a rule sees the value bytes of the table's
+-- Document 01, the table of tags, with request C-11's tags of tiles, and rules 27 and 9 to 12, rule 10 as request C-12 leaves it. From here on a rule sees the value bytes of the table's
 -- tags, which are runs of the file. `tb` is a table and `hs` are the entries of a directory, so that another kind of directory may have a table of its
 -- own. Assumes nothing.
 use Prim.Native.Nat.{ℕ, _+_, _-_, _*_, _/_, _%_}
@@ -113,7 +113,7 @@ hold tb f e = record { entry = e; bytes = cond (listed tb e) (run f (e .start) (
 abbrev pub absent : Held
 absent = record { entry = record { tag = 0; typ = 0; count = 0; start = 0; len = 0 }; bytes = [] }
 
--- the entry of a tag; `absent`, whose tag is 0 and whose bytes are none, where there is none
+-- the first entry of a tag; `absent`, whose tag is 0 and whose bytes are none, where there is none
 unfoldable pub find : ℕ → List Held → Held
 find t [] = absent
 find t (h ∷ hs) = cond (eqb (h .entry .tag) t) h (find t hs)

@@ -94,7 +94,7 @@ pub struct Cited {
     pub len: usize,
 }
 
-// Where the metadata text stands: in the file (from 0) or in the outside text (from 1).
+// Where a metadata text stands: in the file (from 0) or in the outside text (from 1).
 pub struct Text {
     pub verdict: Verdict,
     pub from: u32,
