@@ -6,13 +6,13 @@ use mathlib.Core.List.{List, []}
 use native.Mathlib.Omega.{arith}
 use lib.Dec.{eqb, ltb}
 use lib.ListN.{length}
-use borrow.Author.Tests.{lt-ltb, ltb-false}
+use borrow.Author.Tests.{lt-ltb}
 use Rattle.paper.specs.Bytes.{num}
 use Rattle.paper.specs.Outcome.{breaks, first}
 use Rattle.paper.specs.Keys.{short, keyCount, keys, rule15, keyRules}
 use Rattle.paper.specs.declared.Outcome.{Outcome}
 use Rattle.paper.specs.declared.Outcome.the-variants.{Kept as kept, Broken as broken}
-use Rattle.paper.proofs.Laws.{or-false, breaks-kept}
+use Rattle.paper.proofs.Header.{header-kept}
 use Rattle.keys.specs.declared.KeysJudged.{KeysJudged}
 use Rattle.keys.specs.Pass.{runs, keysJudged, entriesJudged}
 
@@ -51,19 +51,10 @@ pub record Headed (big : Bool) (d : List ℕ) : Type 0 where
   pub whole : 8 + 8 * num big 2 d 6 ≤ length d
 
 pub headed : (big : Bool) (d : List ℕ) (o : Outcome) → o ≡ rule15 (runs big d [] []) → o ≡ kept → Headed big d
-unfolding rule15 short keyCount
+unfolding short keyCount
 headed big d o is-o h =
-    let k = num big 2 d 6 in
-    let e = ltb 256 k in
-    let f = ltb (length d / 2) (4 + 4 * k) in
-    let c = not (eqb (num big 2 d 4) 0) in
-    let b = not (eqb (num big 2 d 2) 1) in
-    let a = not (eqb (num big 2 d 0) 1) in
-    let u = or-false a (b || (c || (e || f))) (breaks-kept (a || (b || (c || (e || f)))) 0 (sym is-o ∙ h)) .1 in
-    let v = or-false e f (or-false c (e || f) (or-false b (c || (e || f)) u .1) .1) in
-    let l : k ≤ 256 = ltb-false 256 k (v .0) in
-    let m : 4 + 4 * k ≤ length d / 2 = ltb-false (length d / 2) (4 + 4 * k) (v .1) in
-    record { few = l; whole = omega arith }
+    let k = header-kept (runs big d [] []) (sym is-o ∙ h) in
+    record { few = k .few; whole = k .whole }
 
 -- the same of K as code read it
 module _ (big : Bool) (d : List ℕ) (o : Outcome) (is-o : o ≡ rule15 (runs big d [] [])) (keeps : o ≡ kept) where

@@ -8,6 +8,7 @@ pub mod Keeps
 pub mod Lent
 pub mod Places
 pub mod Held
+pub mod Header
 pub mod Values
 pub mod RowValues
 pub mod OnGround

@@ -18,8 +18,9 @@ use Rattle.paper.specs.Calls.{backOf, readBack, readRuns, counted}
 use Rattle.paper.specs.Block.{joined, encs, elements, valuesAt, shortValues, doubleValues, characterValues, countAt, newIndex, withIndex, moved, movedKeys}
 use Rattle.paper.specs.Block.{entryNumbers, directoryNumbers, blockDirectory, blockDoubles, blockCharacters, rule24, tooFar}
 use Rattle.paper.specs.Asked.{Bytes, elementsOf, SameKeys}
-use Rattle.paper.proofs.Laws.{num-bound, length-build, getD-build, kept-all, all-kept, kept-cond, first-same, all-at, and-eq, and-both, or-false, breaks-kept}
+use Rattle.paper.proofs.Laws.{num-bound, length-build, getD-build, kept-all, all-kept, kept-cond, first-same, all-at, and-eq, and-both}
 use Rattle.paper.proofs.Codec.{num-drop, getD-elems, num-encs, length-encs, elems-encs, sumAt, length-moved, moved-at, joined-at, joined-in, length-values}
+use Rattle.paper.proofs.Header.{header-kept}
 use Rattle.paper.proofs.Codec.{Below, below-append, below-joined, below-values}
 use Rattle.paper.specs.declared.KeyEntry.{KeyEntry}
 
@@ -266,15 +267,6 @@ below-key r i b h =
     subst (λ (e : KeyEntry). Below 65536 (entryNumbers e)) (sym (key-at r i h))
     (below-four 65536 _ _ _ _ (short-bound r _ b) (short-bound r _ b) (short-bound r _ b) (short-bound r _ b))
 
-few-keys : (r : Runs) → rule15 r ≡ kept → ltb 256 (keyCount r) ≡ false
-unfolding rule15
-few-keys r h =
-    let a = breaks-kept (not (eqb (short r 0) 1) || (not (eqb (short r 1) 1) || (not (eqb (short r 2) 0) || (ltb 256 (keyCount r) || ltb (length (r .directory) / 2) (4 + 4 * keyCount r))))) 0 h in
-    let b = or-false (not (eqb (short r 0) 1)) _ a .1 in
-    let c = or-false (not (eqb (short r 1) 1)) _ b .1 in
-    let d = or-false (not (eqb (short r 2) 0)) _ c .1 in
-    or-false (ltb 256 (keyCount r)) _ d .0
-
 -- an entry with another index has the same value where its elements are the same, wherever they stand
 value-moved-to : (r s : Runs) (e : KeyEntry) (x : ℕ)
     → (e .location ≡ 34735 → elements (r .big) 2 (r .directory) e ≡ elements (s .big) 2 (s .directory) (withIndex e x))
@@ -441,7 +433,7 @@ module _ (r : Runs) (ok : Writable r) where
       let a : short (written r) 0 ≡ 1 = short-back 0 in
       let b : short (written r) 1 ≡ 1 = short-back 1 in
       let c : short (written r) 2 ≡ 0 = short-back 2 in
-      rw (a, b, c, count-back, few-keys r (ok .kept15), le-ltb _ _ long-back)
+      rw (a, b, c, count-back, le-ltb _ _ (header-kept r (ok .kept15) .few), le-ltb _ _ long-back)
 
   rule16-back : rule16 (keys (written r)) ≡ kept
   unfolding rule16 movedKeys

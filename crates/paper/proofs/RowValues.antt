@@ -2,14 +2,14 @@
 -- content. Assumes nothing.
 use Prim.Native.Nat.{ℕ, suc, _+_, _-_, _*_, _/_, _≤_, _<_}
 use mathlib.Core.Path.{_≡_, refl, sym, ap, ap₂, _∙_, subst}
-use mathlib.Core.Bool.{Bool, true, false, not, _||_, _&&_}
+use mathlib.Core.Bool.{Bool, true, false, _||_, _&&_}
 use mathlib.Core.List.{List, [], _∷_, _++_}
 use native.Mathlib.Nat.{add-zero, zero-add, mul-add, mul-suc, mul-pos, mul-le-mul-left}
 use native.Mathlib.Omega.{arith}
-use lib.Dec.{eqb, leb, ltb, lit<}
+use lib.Dec.{eqb, leb, lit<}
 use lib.ListN.{length, getD, drop, length-append, length-drop, List·getD-append}
 use lib.Seq.{ext-getD, getD-drop, getD-append-add}
-use borrow.Author.Tests.{eqb-true, leb-true, ltb-false, le-ltb, not-false}
+use borrow.Author.Tests.{eqb-true, leb-true, le-ltb, not-false}
 use Rattle.paper.specs.Bytes.{run, num, build, elems}
 use Rattle.paper.specs.Outcome.{kept}
 use Rattle.paper.specs.Tag
@@ -20,9 +20,10 @@ use Rattle.paper.specs.Calls.{judgedOf, judgedIn, notJudged, Starts, sta
 use Rattle.paper.specs.Block.{elements}
 use Rattle.paper.specs.Asked.{elementsOf}
 use Rattle.paper.specs.Shown.{startIn, keysIn, keyIn, shortIn, KeysHold, widthAt, RowHolds, RowsHold}
-use Rattle.paper.proofs.Laws.{and-eq, or-false, breaks-kept, kept-all, num-run, length-build, getD-build}
+use Rattle.paper.proofs.Laws.{and-eq, kept-all, num-run, length-build, getD-build}
 use Rattle.paper.proofs.Codec.{num-drop, length-elems, getD-elems}
 use Rattle.paper.proofs.Keeps.{rule15-kept, rule17-kept}
+use Rattle.paper.proofs.Header.{header-kept}
 use Rattle.paper.proofs.Called.{answer-good}
 use Rattle.paper.proofs.Held.{tag-part}
 use Rattle.paper.proofs.Values.{tag-number}
@@ -70,18 +71,6 @@ right-or r e kind h = go (eqb kind 0) refl (eqb kind 1) refl (eqb kind 2) refl
         let x : eqb (e .location) 34737 && (within r e && eqb (getD (r .characters) (e .index + e .count - 1) 0) 124) ≡ true = rw (p, q, t) at h in
         second (inEntry e) (and-eq (within r e) _ (and-eq (eqb (e .location) 34737) _ x .1) .0)
     go false p false q false t = rw (p, q, t) at h
-
--- the key directory has room for its K entries
-long-directory : (r : Runs) → rule15 r ≡ kept → 2 * (4 + 4 * keyCount r) ≤ length (r .directory)
-unfolding rule15
-long-directory r h =
-    let test : Bool = ltb 256 (keyCount r) || ltb (length (r .directory) / 2) (4 + 4 * keyCount r) in
-    let a = breaks-kept (not (eqb (short r 0) 1) || (not (eqb (short r 1) 1) || (not (eqb (short r 2) 0) || test))) 0 h in
-    let b = or-false (not (eqb (short r 0) 1)) _ a .1 in
-    let c = or-false (not (eqb (short r 1) 1)) _ b .1 in
-    let d = or-false (not (eqb (short r 2) 0)) _ c .1 in
-    let l : 4 + 4 * keyCount r ≤ length (r .directory) / 2 = ltb-false _ _ (or-false (ltb 256 (keyCount r)) _ d .1) in
-    omega arith
 
 -- ---- a row, by the location of its key
 
@@ -132,7 +121,7 @@ module _ (f : List ℕ) (i : ℕ) where
       → RowHolds f i (made (keyIn f i) (startIn f Tag.keyDirectory + (8 * i + 14)) 2)
   unfolding widthAt runsOf view viewAt
   own-row h kept15 at one =
-      let long : 2 * (4 + 4 * keysIn f) ≤ length (bytesOf Tag.keyDirectory (view f .held)) = long-directory (runsOf (view f)) kept15 in
+      let long : 8 + 8 * keysIn f ≤ length (bytesOf Tag.keyDirectory (view f .held)) = header-kept (runsOf (view f)) kept15 .whole in
       let part = tag-part f Tag.keyDirectory (2 * (7 + 4 * i)) 2 (omega arith) (omega arith) in
       let width : widthAt (keyIn f i .location) ≡ 2 = ap widthAt at in
       let first : startIn f Tag.keyDirectory + (8 * i + 14) ≡ startIn f Tag.keyDirectory + 2 * (7 + 4 * i) = omega arith in
@@ -183,7 +172,7 @@ module _ (f : List ℕ) (z : verdictOf f .number ≡ 0) where
   short-in : (j : ℕ) → j < 4 + 4 * keysIn f → short (runsOf (view f)) j ≡ shortIn f j
   unfolding short shortIn runsOf view viewAt
   short-in j h =
-      let long : 2 * (4 + 4 * keysIn f) ≤ length (bytesOf Tag.keyDirectory (view f .held)) = long-directory (runsOf (view f)) (rule15-kept f z) in
+      let long : 8 + 8 * keysIn f ≤ length (bytesOf Tag.keyDirectory (view f .held)) = header-kept (runsOf (view f)) (rule15-kept f z) .whole in
       tag-number f Tag.keyDirectory (headIn f .big) 2 (2 * j) (lit< tt) (omega arith)
 
   judged-keys : judgedOf f .keys ≡ keysIn f
