@@ -42,8 +42,8 @@ static void print_part(const char *what, petalbuzz_part a) {
            (int)a.length, (const char *)a.text);
 }
 
-static void print_counted(const char *what, petalbuzz_counted a) {
-    printf("%s %u %u keys %u\n", what, a.verdict, a.place, a.keys);
+static void print_read(const char *what, petalbuzz_block_read a) {
+    printf("%s %u %u keys %u minor %u\n", what, a.verdict, a.place, a.keys, a.minor);
 }
 
 /* Column i and row j on the ground, as the header has it, against x and y. */
@@ -69,7 +69,8 @@ static petalbuzz_grounded ask_ground(const void *from) {
 static void ask_rows(const void *from, petalbuzz_row *to, size_t room) {
     size_t end = 0;
     memset(rows, UNTOUCHED, sizeof rows);
-    print_counted("rows", petalbuzz_rows_file(from, len, to, room));
+    petalbuzz_counted a = petalbuzz_rows_file(from, len, to, room);
+    printf("rows %u %u keys %u\n", a.verdict, a.place, a.keys);
     for (size_t i = 0; i < sizeof rows; i++)
         if (((const uint8_t *)rows)[i] != UNTOUCHED) end = i / sizeof rows[0] + 1;
     for (size_t i = 0; i < end; i++)
@@ -95,11 +96,11 @@ static void ask_blocks(void) {
     size_t one = a.lengths[0], two = a.lengths[1], three = a.lengths[2];
     size_t needed = one + two + three;
     const uint8_t *second = out + one, *third = second + two;
-    print_counted("back", petalbuzz_read_block_runs(out, one, second, two, third, three));
-    print_counted("no directory", petalbuzz_read_block_runs(0, one, second, two, third, three));
-    print_counted("no doubles", petalbuzz_read_block_runs(out, one, 0, 99, third, three));
-    print_counted("no characters", petalbuzz_read_block_runs(out, one, second, two, 0, 99));
-    print_counted("no runs", petalbuzz_read_block_runs(0, one, 0, 99, 0, 99));
+    print_read("back", petalbuzz_read_block_runs(out, one, second, two, third, three));
+    print_read("no directory", petalbuzz_read_block_runs(0, one, second, two, third, three));
+    print_read("no doubles", petalbuzz_read_block_runs(out, one, 0, 99, third, three));
+    print_read("no characters", petalbuzz_read_block_runs(out, one, second, two, 0, 99));
+    print_read("no runs", petalbuzz_read_block_runs(0, one, 0, 99, 0, 99));
     ask_block(file, out, needed);
     ask_block(file, out, needed > 0 ? needed - 1 : 0);
     ask_block(file, 0, sizeof out);

@@ -1,6 +1,6 @@
-/* What petalbuzz tells of a file. Verdict, place, georeference, rows, citations
- * and metadata are the library's answers; the value of a key is read at the place
- * that its row names, and judged by nobody. */
+/* What petalbuzz tells of a file. Verdict, place, georeference, rows, minor
+ * revision, citations and metadata are the library's answers; the value of a key
+ * is read at the place that its row names, and judged by nobody. */
 #ifndef HOST_FOUND_H
 #define HOST_FOUND_H
 
@@ -11,6 +11,15 @@
 enum { MOST_KEYS = 256, MODEL_TYPE = 1024, RASTER_TYPE = 1025 };
 enum { MOST_TEXTS = 1024 }; /* a directory has no more entries */
 enum { DOUBLES = 34736, CHARACTERS = 34737 }; /* locations */
+
+/* The most bytes of a key block: in each of its three parts the last value starts at
+ * element 65,535 at most, by 24, and has at most 65,535 elements; they are SHORTs,
+ * doubles and characters, of 2, 8 and 1 bytes. */
+enum { MOST_VALUE = 65535, MOST_BLOCK = (2 + 8 + 1) * (MOST_VALUE + MOST_VALUE) };
+
+/* Of a file that changes while its block is being written more may be written, behind
+ * the room that is lent: at most 65,535 doubles for each key. */
+enum { ASTRAY = MOST_KEYS * MOST_VALUE * 8 };
 
 /* A value: numbers of 2 bytes, doubles, or a text, as they stand in the file. */
 struct value {
@@ -29,6 +38,8 @@ struct found {
     uint32_t keys;
     petalbuzz_row rows[MOST_KEYS];
     struct value values[MOST_KEYS];
+    petalbuzz_block block; /* refused where it cannot be written */
+    uint32_t minor; /* the minor revision, where there is a block */
     petalbuzz_part citations[MOST_KEYS]; /* of the keys of kind ASCII */
     uint32_t texts;
     petalbuzz_part metadata[MOST_TEXTS]; /* the metadata texts of the file by their numbers */
@@ -108,6 +119,21 @@ static int find_citation(const struct whole *file, struct found *f, uint32_t i) 
     return text->verdict == 0;
 }
 
+/* Asks for the minor revision of the key header: the key block has it, and tells it when
+ * it is read back. A file that has no block, by 24, leaves it open. Answers whether the
+ * block is of the same keys as the rows. */
+static int find_minor(const struct whole *file, struct found *f) {
+    static uint8_t out[MOST_BLOCK + ASTRAY];
+    f->block = petalbuzz_key_block_file(file->bytes, file->len, out, MOST_BLOCK);
+    if (f->block.verdict != 0) return f->block.verdict == PETALBUZZ_BLOCK_INDEX;
+    const size_t *len = f->block.lengths;
+    const uint8_t *doubles = out + len[0], *characters = doubles + len[1];
+    petalbuzz_block_read back =
+        petalbuzz_read_block_runs(out, len[0], doubles, len[1], characters, len[2]);
+    f->minor = back.minor;
+    return back.verdict == 0 && back.keys == f->keys && back.minor < MINORS;
+}
+
 /* Asks for every metadata text of the file, by number, until there is none of a number
  * or it is the outside text. Answers whether the file is still accepted. */
 static int find_texts(const struct whole *file, struct found *f) {
@@ -129,6 +155,7 @@ static const char *look(const struct whole *file, struct found *f) {
     petalbuzz_counted counted = petalbuzz_rows_file(file->bytes, file->len, f->rows, MOST_KEYS);
     if (counted.verdict != 0 || !find_texts(file, f)) return changed;
     f->keys = counted.keys;
+    if (!find_minor(file, f)) return changed;
     f->is_big = *(const uint8_t *)file->bytes == 'M';
     f->raster = 0;
     for (uint32_t i = 0; i < f->keys; i++) {

@@ -45,7 +45,7 @@ struct question {
 };
 
 struct record {
-    uint32_t verdict, place, third, gap;
+    uint32_t verdict, place, third, fourth;
     union {
         double doubles[10];
         size_t sizes[10];
@@ -86,7 +86,7 @@ static void ask_key_block(const struct question *q, struct record *r) {
 
 static void ask_read_block(const struct question *q, struct record *r) {
     petalbuzz_read_block(q->run[0], q->len[0], q->run[1], q->len[1], q->run[2], q->len[2],
-                         &r->verdict, &r->place, &r->third);
+                         &r->verdict, &r->place, &r->third, &r->fourth);
 }
 
 /* The calls by their number in the head. */

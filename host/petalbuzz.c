@@ -200,27 +200,30 @@ static void tell_totals(void) {
 
 /* ---- the files ---- */
 
-/* Bytes of a mapped file that cannot be read, on a bad card or because the file
- * was cut meanwhile, come as a signal. */
+/* Bytes of a mapped file that cannot be read come as a signal: SIGBUS on a bad card
+ * or because the file was cut meanwhile, SIGSEGV where it changed meanwhile and names
+ * bytes behind its end. */
 static sigjmp_buf unreadable;
-static void leave(int number) {
-    (void)number;
-    siglongjmp(unreadable, 1);
+static void leave(int number) { siglongjmp(unreadable, number); }
+
+static void on_unreadable(void (*way)(int)) {
+    signal(SIGBUS, way);
+    signal(SIGSEGV, way);
 }
 
 /* Tells of a file that is lent. */
 static struct told look_at(const char *path, const struct whole *file) {
-    struct told told = {{0, 0}, "cannot be read to its end"};
-    signal(SIGBUS, leave);
-    if (sigsetjmp(unreadable, 1) == 0) {
+    on_unreadable(leave);
+    int number = sigsetjmp(unreadable, 1);
+    if (number == 0) {
         struct told seen = tell(&record, path, file);
-        signal(SIGBUS, SIG_DFL);
+        on_unreadable(SIG_DFL);
         if (!seen.wrong && !is_unchanged(file)) seen.wrong = changed;
         if (!seen.wrong && record.failed) seen.wrong = "there is no memory to tell of it";
         return seen;
     }
-    signal(SIGBUS, SIG_DFL);
-    return told;
+    on_unreadable(SIG_DFL);
+    return (struct told){{0, 0}, number == SIGBUS ? "cannot be read to its end" : changed};
 }
 
 /* Judges a file that is lent and gives it back: a whole record, or none. */

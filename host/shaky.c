@@ -1,7 +1,8 @@
 /* A library to load before the C library, for tests: it brings about in the midst of
  * telling of a file what else happens by chance. Without SHAKY the first file's bytes
- * cannot be read to the end, as on a bad page; else the file that SHAKY names changes
- * as soon as its first verdict is worded: key 1025 of file A becomes 3. */
+ * cannot be read to the end, as on a bad page, or with ASTRAY, bytes behind its end are
+ * read; else the file that SHAKY names changes as soon as its first verdict is worded:
+ * key 1025 of file A becomes 3. */
 #include <fcntl.h>
 #include <signal.h>
 #include <stdio.h>
@@ -13,7 +14,7 @@ int vsnprintf(char *to, size_t n, const char *format, __builtin_va_list words);
 
 char *strpbrk(const char *from, const char *any) {
     static int calls;
-    if (++calls == 3 && !getenv("SHAKY")) raise(SIGBUS);
+    if (++calls == 3 && !getenv("SHAKY")) raise(getenv("ASTRAY") ? SIGSEGV : SIGBUS);
     for (; *from; from++)
         for (const char *each = any; *each; each++)
             if (*from == *each) return (char *)from;

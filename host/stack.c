@@ -32,6 +32,7 @@ static petalbuzz_grounded grounded;
 static petalbuzz_counted counted;
 static petalbuzz_part part;
 static petalbuzz_block block;
+static petalbuzz_block_read back;
 static size_t one, two, three; /* lengths of the file's own block, which is in out */
 
 static void judge(void) { petalbuzz_judge(file, len, &judged.verdict, &judged.place); }
@@ -53,8 +54,8 @@ static void write_block(void) {
     petalbuzz_key_block(file, len, out, sizeof out, &block.verdict, &block.place, block.lengths);
 }
 static void read_block(void) {
-    petalbuzz_read_block(out, one, out + one, two, out + one + two, three, &counted.verdict,
-                         &counted.place, &counted.keys);
+    petalbuzz_read_block(out, one, out + one, two, out + one + two, three, &back.verdict,
+                         &back.place, &back.keys, &back.minor);
 }
 
 static void judge_file(void) { judged = petalbuzz_judge_file(file, len); }
@@ -68,7 +69,7 @@ static void write_block_file(void) {
     block = petalbuzz_key_block_file(file, len, out, sizeof out);
 }
 static void read_block_runs(void) {
-    counted = petalbuzz_read_block_runs(out, one, out + one, two, out + one + two, three);
+    back = petalbuzz_read_block_runs(out, one, out + one, two, out + one + two, three);
 }
 
 static struct {

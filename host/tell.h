@@ -39,6 +39,20 @@ static void add_value_text(struct record *to, const struct found *f, const struc
 
 /* ---- in words ---- */
 
+/* The revision of the key header, or why it is not told. */
+static void add_revision(struct record *to, const struct found *f) {
+    add(to, "  revision  ");
+    if (f->block.verdict == 0) {
+        add(to, minor_says[f->minor]);
+    } else {
+        add(to, "not told: the key block cannot be written, ");
+        add_number(to, f->block.verdict);
+        add(to, " at key ");
+        add_number(to, f->block.place);
+    }
+    add(to, "\n");
+}
+
 /* A line for each key: number, name, kind, place, value and what it means. */
 static void add_keys(struct record *to, const struct found *f) {
     for (uint32_t i = 0; i < f->keys; i++) {
@@ -123,6 +137,7 @@ static struct told tell_words(struct record *to, const char *path, const struct 
     add(to, "\n");
     if (f.ground.verdict != 0) return told;
     add_ground(to, &f);
+    add_revision(to, &f);
     add_keys(to, &f);
     add_texts(to, &f);
     return told;
@@ -285,6 +300,10 @@ static void add_json_texts(struct record *to, const struct found *f) {
 /* The members that only an accepted file has. */
 static void add_json_found(struct record *to, const struct found *f) {
     add_json_ground(to, &f->ground);
+    if (f->block.verdict == 0)
+        add_json_number(to, ",", "minor_revision", f->minor);
+    else
+        add(to, ",\"minor_revision\":null");
     add(to, ",\"keys\":[");
     add_json_keys(to, f);
     add(to, "],\"citations\":[");

@@ -152,6 +152,12 @@ static const char *const corners_say[][2] = {
     {"column 0, row 0, the centre of the first pixel",
         "column = width - 1, row = length - 1, the centre of the last pixel"}};
 
+/* The revision of the key header, by its minor revision. */
+static const char *const minor_says[] = {
+    "1.0 (minor revision 0 of the key header)",
+    "1.1 (minor revision 1 of the key header, as OGC 19-008r4 writers put it)"};
+enum { MINORS = sizeof minor_says / sizeof minor_says[0] };
+
 /* What a value of a key means, from a first one to a last one, by its name in the
  * EPSG register. Of zones the number stands between two words. */
 static const struct meaning {
@@ -226,8 +232,8 @@ static const struct rule {
                                "directory and the values of the table's tags: look at where its "
                                "bytes begin and end (tags 273 and 279, or 324 and 325) and where "
                                "these stand"},
-    [15] = {.wrong = "the key directory's first three numbers are not 1, 1, 0, or the fourth, K, "
-                     "exceeds 256, or the tag's count is below 4 + 4K"},
+    [15] = {.wrong = "the key directory's first three numbers are not 1, 1, and 0 or 1, or the "
+                     "fourth, K, exceeds 256, or the tag's count is below 4 + 4K"},
     [16] = {&a_key, .wrong = "is not greater than the one before"},
     [17] = {&a_key, "has a wrong location, count or value index", "; right: ", FORM},
     [18] = {&a_key, "is needed and absent", ", ", NEEDED},

@@ -142,17 +142,21 @@ void petalbuzz_metadata(const uint8_t *file, size_t len, const uint8_t *outside,
 
 /* Writes the verdict and the place, the key block at the start of out, and
  * the lengths in bytes of its three runs, which stand one behind the other:
- * directory, doubles, characters. The bytes behind the block stay. Its own
- * verdicts: PETALBUZZ_BLOCK_INDEX, then PETALBUZZ_BLOCK_ROOM. */
+ * directory, doubles, characters. The header of the directory has the minor
+ * revision that was read in the file. The block has at most 1,441,770 bytes;
+ * those behind it stay. Its own verdicts: PETALBUZZ_BLOCK_INDEX, then
+ * PETALBUZZ_BLOCK_ROOM. */
 void petalbuzz_key_block(const uint8_t *file, size_t len, uint8_t *out, size_t room,
                          uint32_t *verdict, uint32_t *place, size_t lengths[3]);
 
 /* Reads the three runs of a key block without a file: writes the verdict, of
- * rules 15 to 19 alone, the place, and K, the number of keys. An empty run of
- * doubles or characters is an absent tag. */
+ * rules 15 to 19 alone, the place, K, the number of keys, and the minor revision
+ * of the key header, 0 or 1; it is 0 beside any verdict but 0. An empty run of
+ * doubles or characters is an absent tag. To have the minor revision of a file,
+ * write its key block and read that. */
 void petalbuzz_read_block(const uint8_t *directory, size_t directory_len, const uint8_t *doubles,
                           size_t doubles_len, const uint8_t *characters, size_t characters_len,
-                          uint32_t *verdict, uint32_t *place, uint32_t *keys);
+                          uint32_t *verdict, uint32_t *place, uint32_t *keys, uint32_t *minor);
 
 /* What the *_file and *_runs functions answer. */
 
@@ -189,6 +193,13 @@ typedef struct petalbuzz_block {
     uint32_t place;
     size_t lengths[3]; /* in bytes: directory, doubles, characters */
 } petalbuzz_block;
+
+typedef struct petalbuzz_block_read {
+    uint32_t verdict; /* 0: accepted */
+    uint32_t place;
+    uint32_t keys;  /* K */
+    uint32_t minor; /* the minor revision, 0 or 1 */
+} petalbuzz_block_read;
 
 /* The run to lend for a pointer that may be null. */
 static inline const uint8_t *petalbuzz_lent(const void *run, size_t *len) {
@@ -265,17 +276,18 @@ static inline petalbuzz_block petalbuzz_key_block_file(const void *file, size_t 
 }
 
 /* Judges the three runs of a key block. */
-static inline petalbuzz_counted petalbuzz_read_block_runs(const void *directory,
-                                                          size_t directory_len, const void *doubles,
-                                                          size_t doubles_len,
-                                                          const void *characters,
-                                                          size_t characters_len) {
-    petalbuzz_counted answer;
+static inline petalbuzz_block_read petalbuzz_read_block_runs(const void *directory,
+                                                             size_t directory_len,
+                                                             const void *doubles,
+                                                             size_t doubles_len,
+                                                             const void *characters,
+                                                             size_t characters_len) {
+    petalbuzz_block_read answer;
     const uint8_t *first = petalbuzz_lent(directory, &directory_len);
     const uint8_t *second = petalbuzz_lent(doubles, &doubles_len);
     const uint8_t *third = petalbuzz_lent(characters, &characters_len);
     petalbuzz_read_block(first, directory_len, second, doubles_len, third, characters_len,
-                         &answer.verdict, &answer.place, &answer.keys);
+                         &answer.verdict, &answer.place, &answer.keys, &answer.minor);
     return answer;
 }
 

@@ -37,6 +37,7 @@ const long facts[] = {
     SIGHUP,
     SIGINT,
     SIGBUS,
+    SIGSEGV,
     SIGTERM,
     (long)SIG_DFL,
     (long)SIG_IGN,

@@ -31,6 +31,7 @@ extern "C" {
 #define SIGHUP 1
 #define SIGINT 2
 #define SIGBUS 7
+#define SIGSEGV 11
 #define SIGTERM 15
 #define SIG_DFL ((void (*)(int))0)
 #define SIG_IGN ((void (*)(int))1)

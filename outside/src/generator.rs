@@ -27,30 +27,33 @@ pub struct Sample {
     pub damaged: bool,
 }
 
-/// File number `number` of the mix with this seed; every second is damaged, and
-/// two of every eight are mosaics.
+/// File number `number` of the mix with this seed. Every second is damaged, one
+/// of every sixteen in the header of its keys; two of every eight are mosaics; and
+/// about half are made in minor revision 1.
 pub fn sample(seed: u64, number: u64) -> Sample {
-    if number % 8 < 6 {
-        plain_sample(seed, number)
-    } else {
-        drawn(seed, number, valid::mosaic, damage::mosaic)
+    let random = Random::new(seed).branch(number);
+    let minor = random.branch(1).below(2) as u16;
+    match number % 16 {
+        6 | 7 | 14 | 15 => drawn(random, number, minor, valid::mosaic, damage::mosaic),
+        13 => drawn(random, number, minor, valid::file, damage::header),
+        _ => drawn(random, number, minor, valid::file, damage::damage),
     }
 }
 
-/// The same in the mix without mosaics.
+/// The same in the mix without mosaics, where all are made in minor revision 0.
 pub fn plain_sample(seed: u64, number: u64) -> Sample {
-    drawn(seed, number, valid::file, damage::damage)
+    drawn(Random::new(seed).branch(number), number, 0, valid::file, damage::damage)
 }
 
 fn drawn(
-    seed: u64,
+    mut random: Random,
     number: u64,
-    valid: fn(&mut Random) -> Laid,
+    minor: u16,
+    valid: fn(&mut Random, u16) -> Laid,
     spoiled: fn(Laid, &mut Random) -> Vec<u8>,
 ) -> Sample {
-    let mut random = Random::new(seed).branch(number);
     let damaged = number % 2 == 1;
-    let laid = valid(&mut random);
+    let laid = valid(&mut random, minor);
     let file = if damaged { spoiled(laid, &mut random) } else { laid.bytes };
     Sample { file, damaged }
 }

@@ -1,7 +1,8 @@
-//! The second reader: rules 1 to 26 of document 01, rule 27 of request C-11,
-//! rule 29 of request C-12, and every call, over a plain run of bytes. It is
-//! written to be compared with the words of the documents, not to be fast: all
-//! sums are whole-number sums in u64.
+//! The second reader: rules 1 to 26 of document 01, with rule 27 of request
+//! C-11, rule 29 of request C-12 and the minor revisions of request C-13, and
+//! every call, over a plain run of bytes. It is written to be compared with the
+//! words of the documents, not to be fast: all sums are whole-number sums in
+//! u64.
 //!
 //! `tables` holds the one table for tags and the one for keys; `directory`
 //! rules 1 to 8 and 27; `tags` 9 to 12; `pieces` 13 and 14; `keys` 15 to 19;
@@ -23,10 +24,11 @@ mod tags;
 mod variety;
 mod verdict;
 
-pub use block::{read_block, read_block_clause};
+pub use block::{read_block, read_block_by, read_block_clause, ReadBack};
 pub use calls::{
-    citation, citation_clause, judge, judge_by, judge_clause, key_block, key_block_clause,
-    key_rows, key_rows_clause, metadata, metadata_clause, texts, Block, Cited, Judged, Row, Text,
+    citation, citation_clause, judge, judge_by, judge_clause, key_block, key_block_by,
+    key_block_clause, key_rows, key_rows_clause, metadata, metadata_clause, texts, Block, Cited,
+    Judged, Row, Text,
 };
 pub use directory::{families, several_texts};
 pub use ground::Georeference;

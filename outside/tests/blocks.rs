@@ -4,12 +4,13 @@
 mod common;
 
 use common::held::same_keys;
+use common::keys;
 use common::questions::{accepted, agree};
 use outside::compiled::asking::{block, needs, read_block};
 use outside::compiled::{ask, Question, Reply};
 use outside::generator::prng::Random;
 use outside::generator::{targeted, Call};
-use outside::reader::judge;
+use outside::reader::{judge, Judged};
 
 /// The three runs of the block in a reply to the key block's call.
 fn runs_of(question: &Question, reply: &Reply) -> [Vec<u8>; 3] {
@@ -40,12 +41,16 @@ fn a_written_block_is_read_back() {
     let blocks = blocks(&files);
     assert!(blocks.len() > 3_000, "{}", blocks.len());
     let questions: Vec<Question> = blocks.iter().map(|(_, runs)| read_block(runs)).collect();
+    let mut of_minor = [0, 0];
     for ((file, runs), reply) in blocks.iter().zip(ask(&questions)) {
         let numbers = reply.numbers;
-        let keys = judge(file).keys;
-        assert_eq!((numbers.verdict, numbers.place, numbers.third), (0, 0, keys));
+        let Judged { keys, minor, .. } = judge(file);
+        assert_eq!((numbers.verdict, numbers.place), (0, 0));
+        assert_eq!((numbers.third, numbers.fourth), (keys, minor));
         same_keys(file, runs.each_ref().map(Vec::as_slice));
+        of_minor[minor as usize] += 1;
     }
+    assert!(of_minor.iter().all(|blocks| *blocks > 1_000), "{of_minor:?}");
 }
 
 /// A block with one thing wrong, or only something behind it.
@@ -53,11 +58,12 @@ fn spoiled(runs: &[Vec<u8>; 3], random: &mut Random) -> [Vec<u8>; 3] {
     let mut runs = runs.clone();
     let run = random.below(3) as usize;
     let length = runs[run].len() as u64;
-    match random.below(6) {
+    match random.below(7) {
         0 => runs[run].truncate(random.below(length + 1) as usize),
         1 => runs[run].extend(random.bytes(9)),
         2 => runs.swap(run, (run + 1) % 3),
         3 => runs[run] = random.bytes(length as usize),
+        4 => runs[0][4..6].copy_from_slice(&random.pick(&[[0, 0], [1, 0], [2, 0], [0, 1], [1, 1]])),
         _ if length > 0 => runs[run][random.below(length) as usize] = random.draw() as u8,
         _ => runs[run] = random.bytes(3),
     }
@@ -93,6 +99,15 @@ fn cut_blocks_agree() {
     agree(&cut.iter().map(read_block).collect::<Vec<_>>());
 }
 
+/// Every number there is in the place of the minor revision.
+#[test]
+fn blocks_of_every_minor_revision_agree() {
+    let keys = keys().encode();
+    let runs = |minor: u16| keys.clone().of_minor(minor).runs();
+    let all: Vec<[Vec<u8>; 3]> = (0..=65_535).map(runs).collect();
+    agree(&all.iter().map(read_block).collect::<Vec<_>>());
+}
+
 #[test]
 fn any_bytes_as_a_block_agree() {
     let mut random = Random::new(72);
@@ -104,7 +119,7 @@ fn any_bytes_as_a_block_agree() {
         (0..10_000).map(|_| std::array::from_fn(|_| drawn(&mut random))).collect();
     // half of them begin as a directory does
     for (at, runs) in runs.iter_mut().step_by(2).enumerate() {
-        let head = [1, 0, 1, 0, 0, 0, (at % 12) as u8, (at % 97 / 96) as u8];
+        let head = [1, 0, 1, 0, (at % 3) as u8, 0, (at % 12) as u8, (at % 97 / 96) as u8];
         runs[0].splice(..runs[0].len().min(8), head);
     }
     agree(&runs.iter().map(read_block).collect::<Vec<_>>());

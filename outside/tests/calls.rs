@@ -4,7 +4,7 @@
 mod common;
 
 use common::questions::{accepted, agree};
-use common::{repainted, tags, FILE_A};
+use common::{keys, plan_like_a, repainted, tags, FILE_A};
 use outside::compiled::asking::{
     block, citation, every_call, metadata, needs, numbers, read_block, rows,
 };
@@ -12,7 +12,7 @@ use outside::compiled::{ask, Question, Symbol};
 use outside::generator::prng::Random;
 use outside::generator::{random, sample, targeted, Call, Case};
 use outside::reader::tables::KEYS;
-use outside::reader::{judge, judgements, texts};
+use outside::reader::{judge, judgements, texts, Order};
 use std::collections::BTreeMap;
 
 /// Files are asked about in runs of so many.
@@ -104,6 +104,19 @@ fn citations_of_every_key_agree() {
     let of = |file| keys.iter().map(move |&key| citation(file, key));
     agree(&files.iter().flat_map(|file| of(file)).collect::<Vec<_>>());
     agree(&(0..65_536).map(|key| citation(&files[0], key)).collect::<Vec<_>>());
+}
+
+/// Every number there is in the place of the minor revision, and every call on
+/// those near the two that are allowed.
+#[test]
+fn files_of_every_minor_revision_agree() {
+    for order in [Order::Little, Order::Big] {
+        let keys = keys().encode();
+        let of = |minor: u16| plan_like_a(order, &keys.clone().of_minor(minor)).lay().bytes;
+        let files: Vec<Vec<u8>> = (0..=65_535).map(of).collect();
+        agree(&files.iter().map(|file| Question::on(Symbol::Judge, file)).collect::<Vec<_>>());
+        every_call_agrees(&[0, 1, 2, 3, 255, 256, 257, 512, 65_535].map(of), 76);
+    }
 }
 
 #[test]

@@ -2,10 +2,12 @@
 //! generated file, save those that no file can show; every variety of
 //! accepted files is shown.
 
-use outside::generator::{random, targeted, Case, Sample};
+mod common;
+
+use outside::generator::{random, targeted, Call, Case, Sample};
 use outside::reader::clauses::{CLAUSES, UNREACHABLE};
 use outside::reader::{judge_clause, judgements, varieties, VARIETIES};
-use std::collections::BTreeSet;
+use std::collections::{BTreeMap, BTreeSet};
 
 fn unreachable(clause: &str) -> bool {
     UNREACHABLE.iter().any(|(name, _)| *name == clause)
@@ -29,6 +31,39 @@ fn every_clause_is_kept_at_its_boundary_by_some_case() {
     let cases: Vec<Case> = targeted(11);
     let kept = cases.iter().filter(|case| !case.broken).map(|case| case.clause);
     assert_eq!(missing(&kept.collect()), Vec::<&str>::new());
+}
+
+/// The third number of the key directory of a case.
+fn minor(case: &Case) -> Option<usize> {
+    match &case.call {
+        Call::ReadBlock([directory, ..]) => {
+            directory.get(4..6).map(|pair| common::held::number(true, pair, 0, 2) as usize)
+        }
+        _ => common::minor(&case.file),
+    }
+}
+
+/// Rules 15 to 19, on a file and on a key block; the third number itself is
+/// broken in neither.
+#[test]
+fn every_clause_of_the_keys_is_broken_and_kept_in_either_minor_revision() {
+    let cases = targeted(15);
+    let mut seen: BTreeMap<(&str, bool), BTreeSet<usize>> = BTreeMap::new();
+    for case in &cases {
+        seen.entry((case.clause, case.broken)).or_default().extend(minor(case));
+    }
+    let of_keys = |clause: &str| {
+        let rule = clause.trim_start_matches("block ").split(' ').next().expect("a rule");
+        ["15", "16", "17", "18", "19"].contains(&rule) && !clause.ends_with("under 4 numbers")
+    };
+    let mut told = 0;
+    for ((clause, broken), minors) in seen.into_iter().filter(|((clause, _), _)| of_keys(clause)) {
+        let own = broken && clause.ends_with("third number");
+        assert_eq!(minors.contains(&0) && minors.contains(&1), !own, "{clause} {minors:?}");
+        told += 1;
+    }
+    let reachable = CLAUSES.iter().filter(|clause| of_keys(clause) && !unreachable(clause));
+    assert_eq!(told, 2 * reachable.count());
 }
 
 #[test]

@@ -31,7 +31,20 @@ fn the_fast_judge_agrees_on_the_files_of_real_producers() {
     let files = common::field();
     files.iter().for_each(|file| agrees(file));
     let accepted = files.iter().filter(|file| expected(file).verdict == 0).count();
-    assert_eq!((files.len(), accepted), (70, 34), "as docs/FIELD.md has them");
+    assert_eq!((files.len(), accepted), (79, 43), "as docs/FIELD.md has them");
+}
+
+/// Every number there is in the place of the minor revision.
+#[test]
+fn the_fast_judge_agrees_on_every_minor_revision() {
+    for order in [Order::Little, Order::Big] {
+        let mut laid = common::plan_like_a(order, &common::keys().encode()).lay();
+        let third = laid.spot(34735).value + 4;
+        for minor in 0..=65_535 {
+            laid.put_short(third, minor);
+            agrees(&laid.bytes);
+        }
+    }
 }
 
 /// Every tag of the table, and some behind it, with a value of its own.

@@ -6,7 +6,7 @@ mod common;
 use common::*;
 use outside::generator::{random, targeted, Call, Case};
 use outside::reader::{
-    citation, judge, key_block, key_rows, metadata, texts, Cited, Row, Text, Verdict,
+    citation, judge, key_block, key_rows, metadata, read_block, texts, Cited, Row, Text, Verdict,
 };
 
 /// The refused cases, at most `most` of each rule.
@@ -40,8 +40,24 @@ fn a_refusal_leaves_lent_memory_and_gives_zeros() {
         for number in [0, 1, 2, u32::MAX] {
             assert_eq!(metadata(&case.file, b"outside", number), nothing);
         }
-        assert_eq!(judge(&case.file).keys, 0);
+        let judged = judge(&case.file);
+        assert_eq!((judged.keys, judged.minor), (0, 0));
     }
+}
+
+#[test]
+fn a_refused_key_block_gives_zeros() {
+    let mut refused = [0; 20];
+    for case in targeted(37) {
+        let Call::ReadBlock([directory, doubles, characters]) = &case.call else { continue };
+        let back = read_block(directory, doubles, characters);
+        assert_eq!(back.verdict, case.want);
+        if case.want != (Verdict { number: 0, place: 0 }) {
+            assert_eq!((back.keys, back.minor), (0, 0));
+            refused[case.want.number as usize] += 1;
+        }
+    }
+    assert!(refused[15..].iter().all(|cases| *cases > 8), "{refused:?}");
 }
 
 /// The rows of an accepted file and its key block, each with room to spare.

@@ -1,15 +1,17 @@
-//! The marked examples of document 01, on file A by its bytes.
+//! The marked examples of document 01, with request C-13, on file A by its bytes.
 
 mod common;
 
 use common::*;
-use outside::reader::{judge, key_block, key_rows, listed, metadata, Georeference, Verdict};
+use outside::reader::{
+    judge, key_block, key_rows, listed, metadata, Georeference, Judged, Verdict,
+};
 
 /// What one change to file A must give.
 fn refused(file: &[u8], number: u32, place: u32) {
     let judged = judge(file);
     assert_eq!(judged.verdict, verdict(number, place));
-    assert_eq!(judged.keys, 0);
+    assert_eq!((judged.keys, judged.minor), (0, 0));
     assert_eq!(bits(judged.corners), [0; 4]);
     let Georeference::Scaled(six) = judged.georeference else { panic!("scaled after a refusal") };
     assert_eq!(six.map(f64::to_bits), [0; 6]);
@@ -18,7 +20,7 @@ fn refused(file: &[u8], number: u32, place: u32) {
 #[test]
 fn file_a_is_accepted_with_its_corners() {
     let judged = judge(&FILE_A);
-    assert_eq!((judged.verdict, judged.keys), (verdict(0, 0), 3));
+    assert_eq!((judged.verdict, judged.keys, judged.minor), (verdict(0, 0), 3, 0));
     assert_eq!(bits(judged.corners), bits([500000.0, 4000000.0, 500002.0, 3999999.0]));
     let six = [0.0, 0.0, 500000.0, 4000000.0, 0.5, 0.5];
     assert_eq!(judged.georeference, Georeference::Scaled(six));
@@ -42,13 +44,20 @@ fn pixel_is_point_moves_the_second_corner() {
 }
 
 #[test]
+fn minor_revision_1_is_said_and_changes_nothing_else() {
+    let judged = judge(&changed(KEYS + 4, &[1, 0]));
+    assert_eq!(judged, Judged { minor: 1, ..judge(&FILE_A) });
+    assert_eq!(judged.verdict, verdict(0, 0));
+}
+
+#[test]
 fn one_change_each() {
     refused(&[], 1, 0);
     refused(&changed(0, &[0x4D, 0x4D]), 3, 0);
     refused(&changed(NEXT_OFFSET, &[8, 0, 0, 0]), 8, 0);
     refused(&changed(OFFSET_OF_STRIP, &[0x07, 0x01]), 13, 0);
     refused(&changed(OFFSET_OF_STRIP, &[0x05, 0x01]), 14, 0);
-    refused(&changed(KEYS + 4, &[1, 0]), 15, 0);
+    refused(&changed(KEYS + 4, &[2, 0]), 15, 0);
     let exchanged = [0x01, 0x04, 0, 0, 1, 0, 1, 0, 0x00, 0x04, 0, 0, 1, 0, 1, 0];
     refused(&changed(KEYS + 8, &exchanged), 16, 1024);
     refused(&changed(KEYS + 8 + 8 + 2, &[0xB1, 0x87]), 17, 1025);

@@ -17,6 +17,7 @@ use std::collections::{BTreeMap, BTreeSet};
 struct Answers {
     verdict: Verdict,
     keys: u32,
+    minor: u32,
     doubles: Vec<u64>,
     affine: bool,
     rows: Vec<(Verdict, u32, Vec<Row>)>,
@@ -72,6 +73,7 @@ fn answers(file: &[u8], numbers: &[u32]) -> Answers {
     Answers {
         verdict: judged.verdict,
         keys: judged.keys,
+        minor: judged.minor,
         doubles: six.iter().chain(&judged.corners).map(|double| double.to_bits()).collect(),
         affine,
         rows: [0, 2, 3, 12, 256].iter().map(|&lent| rows(file, lent)).collect(),

@@ -1,6 +1,6 @@
 //! A file of strips that carries no tag of tiles is judged by request C-11 as
 //! document 01 alone judges it: by the table without those tags and without rule
-//! 27. `texts` does so for request C-12.
+//! 27. `texts` does so for request C-12, `revision` for request C-13.
 
 mod common;
 

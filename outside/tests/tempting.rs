@@ -8,18 +8,10 @@ use outside::generator::plan::{Plan, Tag};
 use outside::reader::tables::Family;
 use outside::reader::{
     citation, judge, judge_clause, key_block, key_rows, metadata, read_block, reading_list,
-    Georeference, Order,
+    Georeference, Order, ReadBack,
 };
 
 const ORDERS: [Order; 2] = [Order::Little, Order::Big];
-
-fn keys() -> Keys {
-    let mut keys = Keys::default();
-    for (key, number) in [(1024, 1), (1025, 1), (3072, 32633)] {
-        keys.set(key, Held::Number(number));
-    }
-    keys
-}
 
 /// A plan like file A, with these keys.
 fn plan(order: Order, keys: &Keys) -> Plan {
@@ -329,14 +321,20 @@ fn a_block_is_little_endian_without_gaps_or_sharing() {
         assert_eq!(out[78..86], [8, 7, 6, 5, 4, 3, 2, 1]);
         assert_eq!(&out[86..91], b"ab|b|");
         assert!(out[91..].iter().all(|byte| *byte == 0xEE));
-        assert_eq!(read_block(&out[..78], &out[78..86], &out[86..91]), (verdict(0, 0), 8));
+        let back = read_block(&out[..78], &out[78..86], &out[86..91]);
+        assert_eq!(back, ReadBack { verdict: verdict(0, 0), keys: 8, minor: 0 });
     }
 }
 
 #[test]
 fn the_block_reader_gives_no_k_after_a_refusal() {
-    let [directory, doubles, characters] = keys().encode().runs();
-    assert_eq!(read_block(&directory, &doubles, &characters), (verdict(0, 0), 3));
-    assert_eq!(read_block(&directory[..31], &doubles, &characters), (verdict(15, 0), 0));
-    assert_eq!(read_block(&[], &[], &[]), (verdict(15, 0), 0));
+    for minor in [0, 1] {
+        let [directory, doubles, characters] = keys().encode().of_minor(minor).runs();
+        let back = read_block(&directory, &doubles, &characters);
+        assert_eq!(back, ReadBack { verdict: verdict(0, 0), keys: 3, minor: minor.into() });
+        let back = read_block(&directory[..31], &doubles, &characters);
+        assert_eq!(back, ReadBack { verdict: verdict(15, 0), keys: 0, minor: 0 });
+    }
+    let nothing = ReadBack { verdict: verdict(15, 0), keys: 0, minor: 0 };
+    assert_eq!(read_block(&[], &[], &[]), nothing);
 }

@@ -3,8 +3,7 @@
 
 mod common;
 
-use common::{held, plan_like_a, tags, tiled, verdict};
-use outside::generator::keyplan::{Held, Keys};
+use common::{held, keys, plan_like_a, tags, tiled, verdict};
 use outside::generator::plan::{Laid, Plan, Tag};
 use outside::generator::{random, sample, targeted, Call};
 use outside::reader::tables::{C_11, C_12};
@@ -54,14 +53,6 @@ fn a_file_with_two_side_by_side_was_refused_by_rule_6() {
     let later: BTreeSet<u32> = judgements().filter(|number| *number == 0 || *number > 5).collect();
     assert!(later.is_subset(&numbers), "{numbers:?}");
     assert!(anew > 5_000, "{anew} files");
-}
-
-fn keys() -> Keys {
-    let mut keys = Keys::default();
-    for (key, number) in [(1024, 1), (1025, 1), (3072, 32633)] {
-        keys.set(key, Held::Number(number));
-    }
-    keys
 }
 
 /// Files like file A with these texts, in strips and in tiles, of both orders.

@@ -41,7 +41,7 @@ pub record Ready (f : List ℕ) (e : Examined) : Type 0 where
   pub doubles-in : e .doubles .start + e .doubles .len ≤ length f
   pub characters-in : e .characters .start + e .characters .len ≤ length f
   pub runs-are : runsBy f e ≡ runsOf (view f)
-  pub sound : Sound (runsBy f e) (e .judged .keys)
+  pub sound : Sound (runsBy f e) (e .judged .minor) (e .judged .keys)
 
 module _ (f : List ℕ) (zero : verdictOf f .number ≡ 0) where
   directory : Stands f (view f .held) Tag.keyDirectory
@@ -70,8 +70,8 @@ module _ (f : List ℕ) (zero : verdictOf f .number ≡ 0) where
         characters-in = characters .within;
         runs-are = same;
         sound =
-            subst (λ (r : Runs). Sound r (examinedIn (view f) .judged .keys)) (sym same)
-            (record { fifteen = rule15-kept f zero; seventeen = rule17-kept f zero; many = refl });
+            subst (λ (r : Runs). Sound r (examinedIn (view f) .judged .minor) (examinedIn (view f) .judged .keys)) (sym same)
+            (record { fifteen = rule15-kept f zero; seventeen = rule17-kept f zero; minor = refl; many = refl });
       }
 
 module _ (f : List ℕ) (e : Examined) (is : e ≡ examinedOf f) where
@@ -87,8 +87,8 @@ module _ (f : List ℕ) (e : Examined) (is : e ≡ examinedOf f) where
     runs-are : runs (e .big) d x c ≡ runsOf (view f)
     runs-are = (λ i. runs (e .big) (is-d i) (is-x i) (is-c i)) ∙ ready z .runs-are
 
-    pub sound : Sound (runs (e .big) d x c) (e .judged .keys)
-    sound = subst (λ (r : Runs). Sound r (e .judged .keys)) (λ i. runs (e .big) (sym is-d i) (sym is-x i) (sym is-c i)) (ready z .sound)
+    pub sound : Sound (runs (e .big) d x c) (e .judged .minor) (e .judged .keys)
+    sound = subst (λ (r : Runs). Sound r (e .judged .minor) (e .judged .keys)) (λ i. runs (e .big) (sym is-d i) (sym is-x i) (sym is-c i)) (ready z .sound)
 
     pub block-of : (m : ℕ) → blockIn m (runs (e .big) d x c) ≡ blockOf f m
     unfolding blockOf

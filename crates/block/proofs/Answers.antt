@@ -57,7 +57,7 @@ module _ (r : Runs) (out : List ℕ) where
 
 -- ---- from what was measured
 
-module _ (big : Bool) (d x c : List ℕ) (k : ℕ) (ok : Sound (runs big d x c) k) (s : Sizes) (is : s ≡ measured (4 + 4 * k) 0 0 (entriesOf big d k)) where
+module _ (big : Bool) (d x c : List ℕ) (m k : ℕ) (ok : Sound (runs big d x c) m k) (s : Sizes) (is : s ≡ measured (4 + 4 * k) 0 0 (entriesOf big d k)) where
   abbrev R : Runs
   R = runs big d x c
 
@@ -66,7 +66,7 @@ module _ (big : Bool) (d x c : List ℕ) (k : ℕ) (ok : Sound (runs big d x c) 
 
   rule24-is : s .far ≡ rule24 R
   unfolding rule24 movedKeys
-  rule24-is = ap (λ (z : Sizes). z .far) is ∙ rw (entries-are big d x c k ok, ok .many) (far-is (4 + 4 * keyCount R) 0 0 (keys R))
+  rule24-is = ap (λ (z : Sizes). z .far) is ∙ rw (entries-are big d x c m k ok, ok .many) (far-is (4 + 4 * keyCount R) 0 0 (keys R))
 
   pub far-answer : (out : List ℕ) (p : ℕ) → s .far ≡ broken p → (b : Block) → b ≡ none 24 p → (b ≡ blockIn (length out) R) × (out ≡ blockOver out R)
   far-answer out p h b e = let q = sym rule24-is ∙ h in (e ∙ answer-24 R out p q, left-24 R out p q)
@@ -79,19 +79,19 @@ module _ (big : Bool) (d x c : List ℕ) (k : ℕ) (ok : Sound (runs big d x c) 
     sums = is ∙ sums-are (4 + 4 * k) 0 0 Es (sym (ap (λ (z : Sizes). z .far) is) ∙ near)
 
     directory-size : 2 * s .shorts ≡ length (blockDirectory R)
-    directory-size = ap (λ (z : Sizes). 2 * z .shorts) sums ∙ sym (length-directory big d x c k ok)
+    directory-size = ap (λ (z : Sizes). 2 * z .shorts) sums ∙ sym (length-directory big d x c m k ok)
 
     doubles-size : 8 * s .doubles ≡ length (blockDoubles R)
-    doubles-size = ap (λ (z : Sizes). 8 * z .doubles) sums ∙ ap (λ (n : ℕ). 8 * n) (zero-add _) ∙ sym (length-doubles big d x c k ok)
+    doubles-size = ap (λ (z : Sizes). 8 * z .doubles) sums ∙ ap (λ (n : ℕ). 8 * n) (zero-add _) ∙ sym (length-doubles big d x c m k ok)
 
     characters-size : s .characters ≡ length (blockCharacters R)
-    characters-size = ap (λ (z : Sizes). z .characters) sums ∙ zero-add _ ∙ sym (length-characters big d x c k ok)
+    characters-size = ap (λ (z : Sizes). z .characters) sums ∙ zero-add _ ∙ sym (length-characters big d x c m k ok)
 
     block-size : 2 * s .shorts + 8 * s .doubles + s .characters ≡ length (blockBytes R)
-    block-size = (λ i. directory-size i + doubles-size i + characters-size i) ∙ sym (length-bytes big d x c k ok)
+    block-size = (λ i. directory-size i + doubles-size i + characters-size i) ∙ sym (length-bytes big d x c m k ok)
 
-    pub roomy : (m : ℕ) → 2 * s .shorts + 8 * s .doubles + s .characters ≤ m → Roomy R k (2 * s .shorts) (8 * s .doubles) m
-    roomy m h = record { sound = ok; directory = directory-size; doubles = doubles-size; fits = omega (arith, block-size) }
+    pub roomy : (n : ℕ) → 2 * s .shorts + 8 * s .doubles + s .characters ≤ n → Roomy R m k (2 * s .shorts) (8 * s .doubles) n
+    roomy n h = record { sound = ok; directory = directory-size; doubles = doubles-size; fits = omega (arith, block-size) }
 
     pub short-answer : (out : List ℕ) → length out < 2 * s .shorts + 8 * s .doubles + s .characters → (b : Block)
         → b ≡ none 25 (2 * s .shorts + 8 * s .doubles + s .characters) → (b ≡ blockIn (length out) R) × (out ≡ blockOver out R)

@@ -10,7 +10,7 @@ use native.Mathlib.Omega.{arith}
 use lib.ListN.{length, getD, length-append}
 use borrow.Author.Tests.{not-false}
 use Rattle.paper.specs.Bytes.{build}
-use Rattle.paper.specs.Keys.{Runs, short, keyCount, keyAt, keys, kindOf, room as roomOf, within, misplaced, rule15, rule17, noKey}
+use Rattle.paper.specs.Keys.{Runs, short, minorRevision, keyCount, keyAt, keys, kindOf, room as roomOf, within, misplaced, rule15, rule17, noKey}
 use Rattle.paper.specs.Block.{joined, encs, valuesAt, moved, movedKeys, entryNumbers, shortValues, doubleValues, characterValues, directoryNumbers}
 use Rattle.paper.specs.Block.{blockDirectory, blockDoubles, blockCharacters, blockBytes}
 use Rattle.paper.specs.declared.KeyEntry.{KeyEntry}
@@ -26,14 +26,14 @@ use Rattle.block.proofs.Writing.{Writing, begin, told, room, room-last,
 use Rattle.block.proofs.Turns.{encs-append, length-entryBytes}
 use Rattle.block.proofs.Measuring.{length-joined}
 
-module _ (big : Bool) (d x c : List ℕ) (k : ℕ) (ok : Sound (runs big d x c) k) where
+module _ (big : Bool) (d x c : List ℕ) (m k : ℕ) (ok : Sound (runs big d x c) m k) where
   abbrev R : Runs
   R = runs big d x c
 
   -- ---- what rules 15 and 17 say
 
   head : Headed big d
-  unfolding rule15 short keyCount
+  unfolding rule15 short minorRevision keyCount
   head = headed big d (rule15 R) refl (ok .fifteen)
 
   pub few : k ≤ 256
@@ -81,7 +81,7 @@ module _ (big : Bool) (d x c : List ℕ) (k : ℕ) (ok : Sound (runs big d x c) 
   -- ---- the pieces
 
   abbrev pub Header : List ℕ
-  Header = encs 2 (1 ∷ 1 ∷ 0 ∷ k ∷ [])
+  Header = encs 2 (1 ∷ 1 ∷ m ∷ k ∷ [])
 
   abbrev pub Entries : List ℕ
   Entries = entryBytes big d k
@@ -101,7 +101,7 @@ module _ (big : Bool) (d x c : List ℕ) (k : ℕ) (ok : Sound (runs big d x c) 
       let es : List KeyEntry = entriesOf big d k in
       let e : List ℕ = joined entryNumbers (moved (4 + 4 * k) 0 0 es) in
       let s : List ℕ = joined (valuesAt big 34735 2 d) es in
-      rw (← ok .many, ← entries-are) (encs-append 2 (1 ∷ 1 ∷ 0 ∷ k ∷ []) (e ++ s) ∙ ap (λ (t : List ℕ). Header ++ t) (encs-append 2 e s))
+      rw (← ok .minor, ← ok .many, ← entries-are) (encs-append 2 (1 ∷ 1 ∷ m ∷ k ∷ []) (e ++ s) ∙ ap (λ (t : List ℕ). Header ++ t) (encs-append 2 e s))
 
   doubles-are : blockDoubles R ≡ Doubles
   unfolding blockDoubles doubleValues
@@ -121,7 +121,7 @@ module _ (big : Bool) (d x c : List ℕ) (k : ℕ) (ok : Sound (runs big d x c) 
   -- ---- lengths
 
   eight : length Header ≡ 8
-  eight = length-encs 2 (1 ∷ 1 ∷ 0 ∷ k ∷ [])
+  eight = length-encs 2 (1 ∷ 1 ∷ m ∷ k ∷ [])
 
   length-values : (l w : ℕ) (s : List ℕ) → length (valueBytes big w l s d k) ≡ w * total l (entriesOf big d k)
   length-values l w s =

@@ -6,7 +6,7 @@ use mathlib.Core.List.{List, [], _∷_}
 use lib.ListN.{length}
 use Rattle.paper.specs.Outcome.{firstBad}
 use Rattle.paper.specs.Tag
-use Rattle.paper.specs.Keys.{Runs, keys, keyCount, rule15, rule17}
+use Rattle.paper.specs.Keys.{Runs, keys, minorRevision, keyCount, rule15, rule17}
 use Rattle.paper.specs.Block.{countAt, moved, tooFar, blockDirectory, blockDoubles, blockBytes}
 use Rattle.paper.specs.declared.Outcome.{Outcome}
 use Rattle.paper.specs.declared.Outcome.the-variants.{Kept as kept, Broken as broken}
@@ -27,15 +27,16 @@ unfoldable pub measured : ℕ → ℕ → ℕ → List KeyEntry → Sizes
 measured a d c es =
     sizes (firstBad tooFar (λ e. e .key) (moved a d c es)) (a + total Tag.keyDirectory es) (d + total Tag.doubles es) (c + total Tag.characters es)
 
--- what is known of the runs of an accepted file with k keys
-pub record Sound (r : Runs) (k : ℕ) : Type 0 where
+-- what is known of the runs of an accepted file with minor revision m and k keys
+pub record Sound (r : Runs) (m k : ℕ) : Type 0 where
   pub fifteen : rule15 r ≡ kept
   pub seventeen : rule17 r (keys r) ≡ kept
+  pub minor : m ≡ minorRevision r
   pub many : k ≡ keyCount r
 
 -- the same, with the lengths of the directory and the doubles, and room for the block in n bytes
-pub record Roomy (r : Runs) (k d x n : ℕ) : Type 0 where
-  pub sound : Sound r k
+pub record Roomy (r : Runs) (m k d x n : ℕ) : Type 0 where
+  pub sound : Sound r m k
   pub directory : d ≡ length (blockDirectory r)
   pub doubles : x ≡ length (blockDoubles r)
   pub fits : length (blockBytes r) ≤ n

@@ -2,7 +2,7 @@
 // such runs read back without a file.
 use judge::Examined;
 use paper::Block;
-use paper::Counted;
+use paper::BlockRead;
 use paper::KeyEntry;
 use paper::Outcome;
 use paper::Verdict;
@@ -236,21 +236,23 @@ fn measure(directory: &[u8], big: bool, count: usize) -> Sizes
     }
 }
 
-// The whole block, where there is room: header, entries, and the values of each location. The directory is d bytes long, the doubles x.
+// The whole block, where there is room: the header with the minor revision that was read, the entries, and the values of each location. The directory is d
+// bytes long, the doubles x.
 fn put_block(
     big: bool,
     directory: &[u8],
     doubles: &[u8],
     characters: &[u8],
+    minor: usize,
     count: usize,
     d: usize,
     x: usize,
     out: &mut [u8],
 )
-    requires { ⌜ Roomy (runs big (now directory) (now doubles) (now characters)) count d x (length (now out)) ⌝ }
+    requires { ⌜ Roomy (runs big (now directory) (now doubles) (now characters)) minor count d x (length (now out)) ⌝ }
     ensures { λ _. ⌜ now (out .exit) ≡ splice (now (out .entry)) 0 (blockBytes (runs big (now (directory .entry)) (now (doubles .entry)) (now (characters .entry)))) ⌝ }
 {
-    put_four(out, 0, 1, 1, 0, count);
+    put_four(out, 0, 1, 1, minor, count);
     put_entries(directory, big, count, out, 8);
     put_values(
         directory,
@@ -293,10 +295,11 @@ fn write_runs(
     directory: &[u8],
     doubles: &[u8],
     characters: &[u8],
+    minor: usize,
     count: usize,
     out: &mut [u8],
 ) -> Block
-    requires { ⌜ Sound (runs big (now directory) (now doubles) (now characters)) count ⌝ }
+    requires { ⌜ Sound (runs big (now directory) (now doubles) (now characters)) minor count ⌝ }
     ensures answer { λ r. ⌜ r ≡ blockIn (length (now (out .entry))) (runs big (now (directory .entry)) (now (doubles .entry)) (now (characters .entry))) ⌝ }
     ensures bytes { λ _. ⌜ now (out .exit) ≡ blockOver (now (out .entry)) (runs big (now (directory .entry)) (now (doubles .entry)) (now (characters .entry))) ⌝ }
 {
@@ -311,7 +314,7 @@ fn write_runs(
     if out.len() < need {
         return refused(25, need as u32);
     }
-    put_block(big, directory, doubles, characters, count, d, x, out);
+    put_block(big, directory, doubles, characters, minor, count, d, x, out);
     Block {
         verdict: Verdict {
             number: 0,
@@ -337,6 +340,7 @@ fn write_examined(file: &[u8], e: Examined, out: &mut [u8]) -> Block
         directory,
         doubles,
         characters,
+        e.judged.minor as usize,
         e.judged.keys as usize,
         out,
     )
@@ -358,14 +362,15 @@ pub fn key_block(file: &[u8], out: &mut [u8]) -> Block
 
 // ---- reading back
 
-// Three such runs without a file, little-endian: rules 15 to 19, and K.
-pub fn read_block(directory: &[u8], doubles: &[u8], characters: &[u8]) -> Counted
+// Three such runs without a file, little-endian: rules 15 to 19, K and the minor revision.
+pub fn read_block(directory: &[u8], doubles: &[u8], characters: &[u8]) -> BlockRead
     ensures { λ r. ⌜ r ≡ readBack (now (directory .entry)) (now (doubles .entry)) (now (characters .entry)) ⌝ }
 {
     let k = keys::judge_keys(false, directory, doubles, characters);
     let verdict = k.verdict;
-    Counted {
+    BlockRead {
         verdict,
         keys: k.keys,
+        minor: k.minor,
     }
 }

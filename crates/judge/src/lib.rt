@@ -78,7 +78,7 @@ pub fn examine(file: &[u8]) -> Examined
     }
 }
 
-// The whole judgement: verdict and place, K, georeference and corners.
+// The whole judgement: verdict and place, K, the minor revision, georeference and corners.
 pub fn judge(file: &[u8]) -> Judged
     ensures { λ r. ⌜ r ≡ judgedOf (now (file .entry)) ⌝ }
 {

@@ -133,10 +133,10 @@ module _ (model raster geodetic angular projected linear vertical : ℕ) where
 
 -- ---- the chain of the rules
 
-pub chained : (sixteen seventeen eighteen nineteen : Outcome) (f : List ℕ) (k : ℕ) (a b c v : Verdict) (j : KeysJudged)
+pub chained : (sixteen seventeen eighteen nineteen : Outcome) (f : List ℕ) (k m : ℕ) (a b c v : Verdict) (j : KeysJudged)
     → eighteen ≡ needed (getD f 0 0) (getD f 1 0) (getD f 2 0) (getD f 4 0)
     → nineteen ≡ allowed (getD f 0 0) (getD f 1 0) (getD f 2 0) (getD f 3 0) (getD f 4 0) (getD f 5 0) (getD f 6 0)
     → a ≡ orElse 19 nineteen (verdict 0 0) → b ≡ orElse 18 eighteen a → c ≡ orElse 17 seventeen b → v ≡ orElse 16 sixteen c
-    → j ≡ judged v k (eqb (getD f 1 0) 2) → j ≡ finished sixteen seventeen f k
+    → j ≡ judged v k m (eqb (getD f 1 0) 2) → j ≡ finished sixteen seventeen f k m
 unfolding finished first
-chained sixteen seventeen eighteen nineteen f k a b c v j p q r s t u w = rw (w, u, t, s, r, p, q)
+chained sixteen seventeen eighteen nineteen f k m a b c v j p q r s t u w = rw (w, u, t, s, r, p, q)

@@ -10,7 +10,7 @@ use lib.Dec.{eqb}
 use lib.ListN.{length, getD}
 use borrow.Author.Tests.{eqb-true, eqb-false, ne-eqb, not-false}
 use Rattle.paper.specs.Tag
-use Rattle.paper.specs.Keys.{Runs, short, kindOf, room, within, inEntry, endsInBar, rightPlace, misplaced, keyAt, keyCount, keys, rule15, rule17, noKey}
+use Rattle.paper.specs.Keys.{Runs, short, kindOf, room, within, inEntry, endsInBar, rightPlace, misplaced, keyAt, minorRevision, keyCount, keys, rule15, rule17, noKey}
 use Rattle.paper.specs.Bytes.{build}
 use Rattle.paper.specs.Calls.{Starts, rowOf}
 use Rattle.paper.specs.declared.KeyEntry.{KeyEntry}
@@ -130,7 +130,7 @@ pub row-asks : (big : Bool) (d x t : List ℕ) (s : Starts) (i : ℕ) → s .dir
     → s .characters + length t < 4294967296 → rule15 (runs big d x t) ≡ kept → rule17 (runs big d x t) (keys (runs big d x t)) ≡ kept
     → i < keyCount (runs big d x t)
     → (i < 256) × (8 * i + 16 ≤ length d) × (rowOf s i (keyAt (runs big d [] []) i) .first < 4294967296)
-unfolding rule15 keyCount short keyAt
+unfolding rule15 minorRevision keyCount short keyAt
 row-asks big d x t s i a b c p q l =
     let h = headed big d (rule15 (runs big d x t)) refl p in
     let few : i < 256 = omega (arith, h .few) in

@@ -72,10 +72,10 @@ module _ (r : Runs) where
         record { rises = rises; placed = placed; after = refl; numbers = sym (set-out f (indexOf (e .key) askedKeys) (e .index) l) ∙ numbers; small = small }
 
   -- the answer once all are seen
-  finished-is : (ks : List KeyEntry) (a b n : ℕ) (f : List ℕ) (k : ℕ) → Seen r ks a b n f
-      → finished (toldBy a) (toldBy b) f k ≡ judged (first (entryRules r ks)) k (eqb (keyValue Key.rasterType ks) 2)
+  finished-is : (ks : List KeyEntry) (a b n : ℕ) (f : List ℕ) (k m : ℕ) → Seen r ks a b n f
+      → finished (toldBy a) (toldBy b) f k m ≡ judged (first (entryRules r ks)) k m (eqb (keyValue Key.rasterType ks) 2)
   unfolding finished
-  finished-is ks a b n f k s =
+  finished-is ks a b n f k m s =
       rw (s .rises, s .placed, s .numbers, needed-is ks (s .small), allowed-is ks (s .small), held-is Key.rasterType 2 ks refl refl)
 
 -- ---- the entries of a directory, from i on
@@ -162,11 +162,11 @@ module _ {big : Bool} {d x t : List ℕ} {c h a b n : ℕ} {f : List ℕ} (pass 
   pub turn-other : (k ≡ shortKind → ⊥) → Passing big d x t c (h - 1) a′ b′ (e .key) f
   turn-other o = out (asked-short (e .key) (λ z. o (is-k ∙ z)))
 
-pub pass-end : {big o : Bool} {d x t : List ℕ} {c i a b a′ b′ n : ℕ} {oa ob : Outcome} {f f′ : List ℕ} {j : KeysJudged} → Passing o d x t c i a b n f
-    → big ≡ o → i ≤ 0 → a′ ≡ a → b′ ≡ b → f′ ≡ f → oa ≡ toldBy a′ → ob ≡ toldBy b′ → j ≡ finished oa ob f′ c → j ≡ entriesJudged (runs big d x t) c
+pub pass-end : {big o : Bool} {d x t : List ℕ} {c i a b a′ b′ n : ℕ} {oa ob : Outcome} {f f′ : List ℕ} {j : KeysJudged} (m : ℕ) → Passing o d x t c i a b n f
+    → big ≡ o → i ≤ 0 → a′ ≡ a → b′ ≡ b → f′ ≡ f → oa ≡ toldBy a′ → ob ≡ toldBy b′ → j ≡ finished oa ob f′ c m → j ≡ entriesJudged (runs big d x t) c m
 unfolding entriesJudged
-pass-end {o = o} {d = d} {x = x} {t = t} {c = c} {i = i} {a = a} {b = b} {n = n} {f = f} pass is-o none-left is-a is-b is-f is-oa is-ob is-j =
+pass-end {o = o} {d = d} {x = x} {t = t} {c = c} {i = i} {a = a} {b = b} {n = n} {f = f} m pass is-o none-left is-a is-b is-f is-oa is-ob is-j =
     let r = runs o d x t in
     let z : i ≡ 0 = omega arith in
     let s : Seen r (build (keyAt r) 0 c) a b n f = rw (z, sub-zero) at (pass .seen) in
-    is-j ∙ rw (is-oa, is-ob, is-a, is-b, is-f, is-o) (finished-is r (build (keyAt r) 0 c) a b n f c s)
+    is-j ∙ rw (is-oa, is-ob, is-a, is-b, is-f, is-o) (finished-is r (build (keyAt r) 0 c) a b n f c m s)

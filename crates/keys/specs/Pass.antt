@@ -10,33 +10,46 @@ use Rattle.paper.specs.declared.Outcome.{Outcome}
 use Rattle.paper.specs.declared.Outcome.the-variants.{Kept as kept, Broken as broken}
 use Rattle.paper.specs.Tests.{Range, between, just, allows}
 use Rattle.paper.specs.Key
-use Rattle.paper.specs.Keys.{Runs, keyCount, keyAt, keys, keyValue, rule16, rule17, rule18, rule19, keyRules}
+use Rattle.paper.specs.Keys.{Runs, minorRevision, keyCount, keyAt, keys, keyValue, rule15, rule16, rule17, rule18, rule19, keyRules}
 use Rattle.paper.specs.Calls.{accepts}
 use Rattle.paper.specs.declared.Verdict.{Verdict}
 use Rattle.paper.specs.declared.KeyEntry.{KeyEntry}
 use Rattle.keys.specs.declared.KeysJudged.{KeysJudged}
+use Rattle.keys.specs.declared.Header.{Header}
+use Rattle.keys.specs.declared.Header.the-variants.{Bad, Good}
 
 abbrev pub runs : Bool → List ℕ → List ℕ → List ℕ → Runs
 runs big d x c = record { big = big; directory = d; doubles = x; characters = c }
 
+-- ---- the header
+
+-- what rule 15 gives with minor revision m and K k
+abbrev pub headerBy : Outcome → ℕ → ℕ → Header
+headerBy kept m k = Good m k
+headerBy (broken p) m k = Bad p
+
+-- broken at its place, or which minor revision and which K were found
+unfoldable pub headerOf : Runs → Header
+headerOf r = headerBy (rule15 r) (minorRevision r) (keyCount r)
+
 -- ---- the answer
 
--- K and whether raster type is PixelIsPoint, or 0 and false with any number but 0
-abbrev pub judged : Verdict → ℕ → Bool → KeysJudged
-judged v k p = record { verdict = v; keys = cond (accepts v) k 0; point = cond (accepts v) p false }
+-- K, the minor revision and whether raster type is PixelIsPoint, or 0, 0 and false with any number but 0
+abbrev pub judged : Verdict → ℕ → ℕ → Bool → KeysJudged
+judged v k m p = record { verdict = v; keys = cond (accepts v) k 0; minor = cond (accepts v) m 0; point = cond (accepts v) p false }
 
 unfoldable pub keysJudged : Runs → KeysJudged
-keysJudged r = judged (first (keyRules r)) (keyCount r) (eqb (keyValue Key.rasterType (keys r)) 2)
+keysJudged r = judged (first (keyRules r)) (keyCount r) (minorRevision r) (eqb (keyValue Key.rasterType (keys r)) 2)
 
 -- rules 16 to 19, over the key entries ks
 abbrev pub entryRules : Runs → List KeyEntry → List Rule
 entryRules r ks = 16 ▸ rule16 ks ∷ 17 ▸ rule17 r ks ∷ 18 ▸ rule18 ks ∷ 19 ▸ rule19 ks ∷ []
 
--- the answer of the rules after 15, with K entries
-unfoldable pub entriesJudged : Runs → ℕ → KeysJudged
-entriesJudged r k =
+-- the answer of the rules after 15, with K entries and minor revision m
+unfoldable pub entriesJudged : Runs → ℕ → ℕ → KeysJudged
+entriesJudged r k m =
     let ks : List KeyEntry = build (keyAt r) 0 k in
-    judged (first (entryRules r ks)) k (eqb (keyValue Key.rasterType ks) 2)
+    judged (first (entryRules r ks)) k m (eqb (keyValue Key.rasterType ks) 2)
 
 -- ---- what is found of a key
 
@@ -96,8 +109,8 @@ allowed model raster geodetic angular projected linear vertical =
     (cond (wrong heights vertical) (broken Key.verticalCRS) kept))))))
 
 -- the answer from the outcomes of rules 16 and 17 and the numbers found of the asked keys
-unfoldable pub finished : Outcome → Outcome → List ℕ → ℕ → KeysJudged
-finished sixteen seventeen f k =
+unfoldable pub finished : Outcome → Outcome → List ℕ → ℕ → ℕ → KeysJudged
+finished sixteen seventeen f k m =
     judged
     (first
     (16 ▸ sixteen
@@ -106,4 +119,5 @@ finished sixteen seventeen f k =
     ∷ 19 ▸ allowed (getD f 0 0) (getD f 1 0) (getD f 2 0) (getD f 3 0) (getD f 4 0) (getD f 5 0) (getD f 6 0)
     ∷ []))
     k
+    m
     (eqb (getD f 1 0) 2)

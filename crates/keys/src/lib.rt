@@ -11,19 +11,26 @@ ghost use Prim.Native.Nat.{_+_, _*_, _≤_, _<_};
 ghost use lib.Dec.{leb};
 ghost use lib.ListN.{length};
 ghost use Rattle.paper.specs.Tests.{just};
-ghost use Rattle.paper.specs.Keys.{kindOf, rule15, keyAt, room, inEntry, rightPlace};
+ghost use Rattle.paper.specs.Keys.{kindOf, keyAt, room, inEntry, rightPlace};
 ghost use Rattle.paper.specs.Calls.{rowOf};
 ghost use Rattle.keys.specs.Rows.{startsIn};
 ghost use Rattle.keys.specs.Table.{keyNumbers, keyKinds, slotOf};
-ghost use Rattle.keys.specs.Pass.{runs, judged, keysJudged, entriesJudged, finished, askedKeys};
+ghost use Rattle.keys.specs.Pass.{runs, headerOf, judged, keysJudged, entriesJudged, finished, askedKeys};
 ghost use Rattle.paper.specs.Tests.{indexOf};
 ghost use Rattle.keys.specs.Pass.{needed, wrong, oneOrTwo, zones, heights, allowed};
 
-// What the judgement of the keys answers: verdict, the number of keys K, and whether raster type is PixelIsPoint.
+// What the judgement of the keys answers: verdict, the number of keys K, the minor revision, and whether raster type is PixelIsPoint.
 pub struct KeysJudged {
     pub verdict: Verdict,
     pub keys: u32,
+    pub minor: u32,
     pub point: bool,
+}
+
+// What the reading of the key directory's header says: rule 15 is broken at a place, or the minor revision and K that were found.
+enum Header {
+    Bad(u32),
+    Good { minor: u32, count: usize },
 }
 
 // Where the values of 34735, 34736 and 34737 start in the file.
@@ -208,22 +215,24 @@ pub fn table_kinds() -> [u8; 45]
 
 // ---- rule 15
 
-// Rule 15: the header's four numbers, and room for K entries.
-fn header(big: bool, directory: &[u8]) -> Outcome
-    ensures { λ r. ⌜ r ≡ rule15 (runs big (now (directory .entry)) [] []) ⌝ }
+// Rule 15: the header's four numbers, and room for K entries. Minor revision 0 or 1 is allowed, and the one that was found is told.
+fn read_header(big: bool, directory: &[u8]) -> Header
+    ensures { λ r. ⌜ r ≡ headerOf (runs big (now (directory .entry)) [] []) ⌝ }
 {
     if directory.len() < 8 {
-        return Outcome::Broken(0);
+        return Header::Bad(0);
     }
     let version = order::short(directory, big, 0);
     let revision = order::short(directory, big, 2);
     let minor = order::short(directory, big, 4);
     let count = order::short(directory, big, 6);
     let many = (256 < count) | (directory.len() / 2 < 4 + 4 * count);
-    if (version != 1) | ((revision != 1) | ((minor != 0) | many)) {
-        Outcome::Broken(0)
-    } else {
-        Outcome::Kept
+    if (version != 1) | ((revision != 1) | ((1 < minor) | many)) {
+        return Header::Bad(0);
+    }
+    Header::Good {
+        minor: minor as u32,
+        count,
     }
 }
 
@@ -320,21 +329,23 @@ fn asked(key: usize) -> usize
 
 // ---- the answer
 
-// K and the raster type go with verdict 0 only.
-fn answer(verdict: Verdict, count: usize, point: bool) -> KeysJudged
+// K, the minor revision and the raster type go with verdict 0 only.
+fn answer(verdict: Verdict, count: usize, minor: u32, point: bool) -> KeysJudged
     requires { ⌜ count < 4294967296 ⌝ }
-    ensures { λ r. ⌜ r ≡ judged verdict count point ⌝ }
+    ensures { λ r. ⌜ r ≡ judged verdict count minor point ⌝ }
 {
     if verdict.number == 0 {
         return KeysJudged {
             verdict,
             keys: count as u32,
+            minor,
             point,
         };
     }
     KeysJudged {
         verdict,
         keys: 0,
+        minor: 0,
         point: false,
     }
 }
@@ -431,9 +442,15 @@ fn allowed_values(
 // ---- the judgement
 
 // Rules 18 and 19 and the whole answer, from what the pass found.
-fn finish(sixteen: Outcome, seventeen: Outcome, found: &[usize; 7], count: usize) -> KeysJudged
+fn finish(
+    sixteen: Outcome,
+    seventeen: Outcome,
+    found: &[usize; 7],
+    count: usize,
+    minor: u32,
+) -> KeysJudged
     requires { ⌜ count < 4294967296 ⌝ }
-    ensures { λ r. ⌜ r ≡ finished sixteen seventeen (now (found .entry)) count ⌝ }
+    ensures { λ r. ⌜ r ≡ finished sixteen seventeen (now (found .entry)) count minor ⌝ }
 {
     // Rule 18: the needed keys are there.
     let eighteen = needed_keys(found[0], found[1], found[2], found[4]);
@@ -453,7 +470,7 @@ fn finish(sixteen: Outcome, seventeen: Outcome, found: &[usize; 7], count: usize
     };
     let last = outcomes::or_else(18, eighteen, outcomes::or_else(19, nineteen, none));
     let verdict = outcomes::or_else(16, sixteen, outcomes::or_else(17, seventeen, last));
-    answer(verdict, count, found[1] == 2)
+    answer(verdict, count, minor, found[1] == 2)
 }
 
 // Rules 16 to 19: one pass over the key entries, from the last to the first, so that the first entry of a key is the one that stays. Each byte order
@@ -466,9 +483,10 @@ fn judge_entries(
     doubles: &[u8],
     characters: &[u8],
     count: usize,
+    minor: u32,
 ) -> KeysJudged
     requires { ⌜ (now keys ≡ keyNumbers) × (now kinds ≡ keyKinds) × (count ≤ 256) × (8 + 8 * count ≤ length (now directory)) ⌝ }
-    ensures { λ r. ⌜ r ≡ entriesJudged (runs big (now (directory .entry)) (now (doubles .entry)) (now (characters .entry))) count ⌝ }
+    ensures { λ r. ⌜ r ≡ entriesJudged (runs big (now (directory .entry)) (now (doubles .entry)) (now (characters .entry))) count minor ⌝ }
 {
     let mut sixteen = outcomes::NONE;
     let mut seventeen = outcomes::NONE;
@@ -519,6 +537,7 @@ fn judge_entries(
         outcomes::told(seventeen),
         &found,
         count,
+        minor,
     )
 }
 
@@ -527,16 +546,25 @@ pub fn judge_keys(big: bool, directory: &[u8], doubles: &[u8], characters: &[u8]
     ensures { λ r. ⌜ r ≡ keysJudged (runs big (now (directory .entry)) (now (doubles .entry)) (now (characters .entry))) ⌝ }
 {
     // Rule 15: the header.
-    let fifteen = header(big, directory);
-    if let Outcome::Broken(place) = fifteen {
-        return KeysJudged {
+    let fifteen = read_header(big, directory);
+    match fifteen {
+        Header::Bad(place) => KeysJudged {
             verdict: Verdict { number: 15, place },
             keys: 0,
+            minor: 0,
             point: false,
-        };
+        },
+        Header::Good { minor, count } => judge_entries(
+            &KEYS,
+            &KINDS,
+            big,
+            directory,
+            doubles,
+            characters,
+            count,
+            minor,
+        ),
     }
-    let count = order::short(directory, big, 6);
-    judge_entries(&KEYS, &KINDS, big, directory, doubles, characters, count)
 }
 
 // ---- key rows

@@ -22,7 +22,7 @@ unfolding Bytes.num Bytes.enc Bytes.build Bytes.elems Outcome.firstOf Outcome.fi
     Layout.rule8 Tags.sixteens Tags.table Tags.inTable Tags.listed Tags.hold Tags.find Tags.has Tags.valuesOf Tags.valueOf Tags.hasSome
     Tags.rule27 Tags.roundedUp Tags.pieceCount Tags.lacks Tags.rule9 Tags.fitsLine Tags.misfits Tags.rule10 Tags.disallowed Tags.rule11
     Tags.rule12 Pieces.shares Pieces.valueParts Pieces.fullList Pieces.placeAt Pieces.placesOf Pieces.pieces Pieces.badPiece Pieces.rule13
-    Pieces.touches Pieces.rule14 Keys.short Keys.keyCount Keys.rule15 Keys.keyAt Keys.keys Keys.rule16 Keys.knownKeys Keys.kindIn Keys.kindOf
+    Pieces.touches Pieces.rule14 Keys.short Keys.minorRevision Keys.keyCount Keys.rule15 Keys.keyAt Keys.keys Keys.rule16 Keys.knownKeys Keys.kindIn Keys.kindOf
     Keys.room Keys.rightPlace Keys.misplaced Keys.rule17 Keys.findKey Keys.hasKey Keys.rule18 Keys.fixedKeys Keys.forbidden Keys.rule19
     Keys.keyRules Ground.finite Ground.double Ground.allFinite Ground.rule20 Ground.scales Ground.spans Ground.rule21 Ground.georeference
     Ground.last Ground.corners Ground.finiteCorners Ground.rule22 Judge.headOf Judge.runsOf Judge.surveyOf Judge.piecesOf Judge.fullOf

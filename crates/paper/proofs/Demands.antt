@@ -7,10 +7,10 @@ use mathlib.Core.Bool.{true, false, _&&_}
 use mathlib.Core.List.{List, [], _∷_, map}
 use lib.Dec.{eqb}
 use lib.ListN.{length, getD}
-use Rattle.paper.specs.Outcome.{Rule, verdict}
+use Rattle.paper.specs.Outcome.{Rule, verdict, first}
 use Rattle.paper.specs.Tests.{keep}
 use Rattle.paper.specs.Tags.{stripTags, tileTags}
-use Rattle.paper.specs.Keys.{Runs, keyCount}
+use Rattle.paper.specs.Keys.{Runs, minorRevision, keyCount, keys, keyRules}
 use Rattle.paper.specs.Judge.{headIn, entriesIn, view, runsOf, piecesOf, fullOf, verdictOf, rules, readingList}
 use Rattle.paper.specs.Calls.{answer, judgedOf, textOf, readRuns}
 use Rattle.paper.specs.Block.{blockOf, blockLeft}
@@ -34,6 +34,7 @@ use Rattle.paper.proofs.Metadata.{metadata-same}
 use Rattle.paper.proofs.Picture.{pieces-within, pieces-unread, repainted-agree}
 use Rattle.paper.proofs.Kept.{carries, tableBefore, tags-before, needed-before, verdictBefore, verdict-kept}
 use Rattle.paper.proofs.Once.{repeats, verdictOnce, verdict-once, verdict-else, no-second, textBefore, text-once}
+use Rattle.paper.proofs.Minor.{keyRulesZero, verdictZero, verdict-zero, verdict-fifteen, read-zero, Twins, count-same, keys-same, rules-same}
 use Rattle.paper.proofs.Trip.{read-accepted, read-same}
 use Rattle.paper.specs.declared.Block.{Block}
 
@@ -46,7 +47,7 @@ use Rattle.paper.specs.declared.Block.{Block}
 pub lent : (f : List ℕ) → Guarded f
 lent f = guarded f
 
--- The call that reads three runs back, without a file, gives 0 or 15 to 19, and with any number but 0 no K.
+-- The call that reads three runs back, without a file, gives 0 or 15 to 19, and with any number but 0 no K and no minor revision.
 pub read-back : (r : Runs) → Reads r
 read-back r = reads r
 
@@ -79,17 +80,19 @@ module _ (f : List ℕ) where
   pub judged : judgedOf f .verdict ≡ verdictOf f
   judged = judged-verdict f
 
--- What an accepted file shows is what the document defines, over the bytes as they stand in the file. `keys`: K and the entries. `rows`: key, kind, and
--- the part of the file that holds the key's value; later rows keep their content. `ground`: the georeference from tiepoint and scale or from the
--- matrix, the two corners written out, all finite. `pieces`: as many as the size asks for, one or more, and where each lies. `texts`: number k, counted
--- from 0, is the value of entry k of tag 50909; with no such tag number 0 is the outside text; any other number is refused by 29.
+-- What an accepted file shows is what the document defines, over the bytes as they stand in the file. `keys`: the minor revision, 0 or 1, as the key
+-- header has it, K and the entries. `rows`: key, kind, and the part of the file that holds the key's value; later rows keep their content. `ground`: the
+-- georeference from tiepoint and scale or from the matrix, the two corners written out, all finite. `pieces`: as many as the size asks for, one or more,
+-- and where each lies. `texts`: number k, counted from 0, is the value of entry k of tag 50909; with no such tag number 0 is the outside text; any other
+-- number is refused by 29.
 pub shown : (f : List ℕ) → verdictOf f .number ≡ 0 → Shows f
 shown f accepts = shows f accepts
 
 -- The written key block reads back: where the call accepts, the three runs in the lent output, cut by the three lengths that it gave, keep rules 15
--- to 19, give the same K, and hold the same keys in the same order with the same values, doubles by their 64 bits.
+-- to 19, give the same K and the same minor revision, and hold the same keys in the same order with the same values, doubles by their 64 bits.
 module _ (f out : List ℕ) (bytes : Bytes f) (accepts : blockOf f (length out) .verdict .number ≡ 0) where
-  pub block-accepted : readRuns (lentRuns (blockLeft f out) (blockOf f (length out))) ≡ record { verdict = verdict 0 0; keys = keyCount (runsOf (view f)) }
+  pub block-accepted : readRuns (lentRuns (blockLeft f out) (blockOf f (length out)))
+      ≡ record { verdict = verdict 0 0; keys = keyCount (runsOf (view f)); minor = minorRevision (runsOf (view f)) }
   block-accepted = read-accepted f out bytes accepts
 
   pub block-keys : SameKeys (runsOf (view f)) (lentRuns (blockLeft f out) (blockOf f (length out)))
@@ -110,7 +113,7 @@ pub block-refused : (f : List ℕ) (m : ℕ) → verdictOf f .number ≡ 0 → B
 block-refused = block-refusals
 
 -- DEMAND 3. Two files of equal length that agree on every byte of the first file's reading list get the same answers from every call, whatever is
--- lent or asked: verdict, place, K, georeference, corners, rows, citation (place and bytes), metadata text (place and bytes), key block and its lengths.
+-- lent or asked: verdict, place, K, minor revision, georeference, corners, rows, citation (place and bytes), metadata text (place and bytes), key block and its lengths.
 -- What is lent and asked is equal for both files: the outside text, the key of a citation, the number of a metadata text.
 pub unseen : (f g : List ℕ) → length f ≡ length g → Agree f g (readingList f) → SameAnswers f g
 unseen f g n h =
@@ -186,7 +189,29 @@ others-once = no-second
 pub text-kept : (f : List ℕ) (m : ℕ) → textOf f 0 m ≡ answer f (textBefore m) (λ v. record { verdict = v; from = 0; start = 0; len = 0 })
 text-kept = text-once
 
+-- REVISION 0 STAYS. C-13 changed nothing for files whose key header has another minor revision than 1: they have the verdict and the place of
+-- `verdictZero`, the judgement without C-13, which is written out in `Minor`. There rule 15 wants 0; every other rule it shares with the verdict.
+pub zero-kept : (f : List ℕ) → (minorRevision (runsOf (view f)) ≡ 1 → ⊥) → verdictOf f ≡ verdictZero f
+zero-kept = verdict-zero
+
+-- And whatever its header is: only a file that was refused by 15 may have another verdict now.
+pub zero-else : (f : List ℕ) → (verdictZero f ≡ verdict 15 0 → ⊥) → verdictOf f ≡ verdictZero f
+zero-else = verdict-fifteen
+
+-- The same of three runs that are read back.
+pub read-kept : (r : Runs) → (minorRevision r ≡ 1 → ⊥) → readRuns r .verdict ≡ first (keyRulesZero r)
+read-kept = read-zero
+
+-- The minor revision decides nothing else: runs that differ in it alone, and have 0 or 1 there, give the same for each of the rules 15 to 19, have the
+-- same K and the same entries.
+module _ (r s : Runs) (twins : Twins r s) where
+  pub minor-alone : minorRevision r ≤ 1 → minorRevision s ≤ 1 → keyRules r ≡ keyRules s
+  minor-alone = rules-same r s twins
+
+  pub minor-keys : (keyCount r ≡ keyCount s) × (keys r ≡ keys s)
+  minor-keys = (count-same r s twins, keys-same r s twins)
+
 -- The marked examples are in `Marked` (`marked`, one table), with the whole reading list of a file of each stage (`allowed`); those of tiles are in
--- `Tiled`, those with tag 50909 more than once in `Repeated`; accepted files of either byte order with their place on the ground in `Placed`; every call
+-- `Tiled`, those with tag 50909 more than once in `Repeated`, those of minor revision 1 in `Revised`; accepted files of either byte order with their place on the ground in `Placed`; every call
 -- on one file in either order, byte for byte, in `FileC`; files with two faults in `Faults`; both sides of the documents' numbers in `Boundaries`,
 -- `TagBoundaries` and `KeyBoundaries`; the 45 kinds in `Tables`.

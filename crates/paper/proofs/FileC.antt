@@ -14,6 +14,7 @@ use Rattle.paper.proofs.Spelled.{spelled, spelled-same}
 use Rattle.paper.proofs.Marked.{fileA, keys, changed, row}
 use Rattle.paper.proofs.Files.{Field, bytes, ascii, doubles, laid, front, scale, tiepoint, key, directory, strip}
 use Rattle.paper.specs.declared.Counted.{Counted}
+use Rattle.paper.specs.declared.BlockRead.{BlockRead}
 use Rattle.paper.specs.declared.Cited.{Cited}
 use Rattle.paper.specs.declared.Text.{Text}
 use Rattle.paper.specs.declared.Block.{Block}
@@ -106,6 +107,9 @@ blockC = blockDirectoryC ++ blockDoublesC ++ blockCharactersC
 unfoldable pub counts : ℕ → ℕ → ℕ → Counted
 counts n p k = record { verdict = verdict n p; keys = k }
 
+unfoldable pub reads : ℕ → ℕ → ℕ → ℕ → BlockRead
+reads n p k m = record { verdict = verdict n p; keys = k; minor = m }
+
 unfoldable pub cites : ℕ → ℕ → ℕ → ℕ → Cited
 cites n p s l = record { verdict = verdict n p; start = s; len = l }
 
@@ -176,8 +180,8 @@ pub back-C : readBack blockDirectoryC blockDoublesC blockCharactersC
     ∷ readBack (take 7 blockDirectoryC) blockDoublesC blockCharactersC
     ∷ readBack [] [] []
     ∷ []
-    ≡ counts 0 0 11 ∷ counts 0 0 11 ∷ counts 17 5003 0 ∷ counts 17 1026 0 ∷ counts 15 0 0 ∷ counts 15 0 0 ∷ []
-unfolding blockC counts computed
+    ≡ reads 0 0 11 0 ∷ reads 0 0 11 0 ∷ reads 17 5003 0 0 ∷ reads 17 1026 0 0 ∷ reads 15 0 0 0 ∷ reads 15 0 0 0 ∷ []
+unfolding blockC reads computed
 back-C = refl
 
 -- ---- 24
@@ -232,10 +236,10 @@ nothing n p =
       short = replicate 134 5;
     }
 
--- A with minor revision 1, and the empty file
-pub refused-15 : answered 4 40 (changed 234 (1 ∷ 0 ∷ [])) ≡ nothing 15 0
+-- A with minor revision 2, and the empty file
+pub refused-15 : answered 4 40 (changed 234 (2 ∷ 0 ∷ [])) ≡ nothing 15 0
 unfolding changed answered nothing row spelled computed
-refused-15 = spelled-same (changed 234 (1 ∷ 0 ∷ [])) (answered 4 40)
+refused-15 = spelled-same (changed 234 (2 ∷ 0 ∷ [])) (answered 4 40)
 
 pub refused-1 : answered 4 40 [] ≡ nothing 1 0
 unfolding answered nothing row computed

@@ -7,14 +7,14 @@ use lib.Dec.{eqb, ltb}
 use lib.ListN.{length}
 use borrow.Author.Tests.{eqb-true, ltb-false, not-false}
 use Rattle.paper.specs.Outcome.{kept}
-use Rattle.paper.specs.Keys.{Runs, short, keyCount, mostKeys, rule15}
+use Rattle.paper.specs.Keys.{Runs, short, minorRevision, newestMinor, keyCount, mostKeys, rule15}
 use Rattle.paper.proofs.Laws.{or-false, breaks-kept}
 
--- its first three numbers, K, and room for as many entries
+-- its first two numbers, the minor revision, K, and room for as many entries
 pub record HeaderKept (r : Runs) : Type 0 where
   pub version : short r 0 ≡ 1
   pub revision : short r 1 ≡ 1
-  pub minor : short r 2 ≡ 0
+  pub minor : minorRevision r ≤ newestMinor
   pub few : keyCount r ≤ mostKeys
   pub whole : 8 + 8 * keyCount r ≤ length (r .directory)
 
@@ -22,7 +22,7 @@ pub header-kept : (r : Runs) → rule15 r ≡ kept → HeaderKept r
 unfolding rule15
 header-kept r h =
     let many : Bool = ltb 256 (keyCount r) || ltb (length (r .directory) / 2) (4 + 4 * keyCount r) in
-    let minor : Bool = not (eqb (short r 2) 0) in
+    let minor : Bool = ltb 1 (minorRevision r) in
     let revision : Bool = not (eqb (short r 1) 1) in
     let version : Bool = not (eqb (short r 0) 1) in
     let a = or-false version (revision || (minor || many)) (breaks-kept (version || (revision || (minor || many))) 0 h) in
@@ -33,7 +33,7 @@ header-kept r h =
     record {
       version = eqb-true _ _ (not-false _ (a .0));
       revision = eqb-true _ _ (not-false _ (b .0));
-      minor = eqb-true _ _ (not-false _ (c .0));
+      minor = ltb-false _ _ (c .0);
       few = ltb-false _ _ (d .0);
       whole = omega arith;
     }

@@ -23,12 +23,19 @@ unfoldable pub numbered : List ℕ → Runs
 unfolding computed
 numbered ns = record { big = false; directory = encs 2 ns; doubles = []; characters = [] }
 
--- the first three numbers
+-- the first two numbers
 pub rule-15 : map (λ ns. rule15 (numbered ns))
-    ((1 ∷ 1 ∷ 0 ∷ 0 ∷ []) ∷ (0 ∷ 1 ∷ 0 ∷ 0 ∷ []) ∷ (2 ∷ 1 ∷ 0 ∷ 0 ∷ []) ∷ (1 ∷ 0 ∷ 0 ∷ 0 ∷ []) ∷ (1 ∷ 2 ∷ 0 ∷ 0 ∷ []) ∷ (1 ∷ 1 ∷ 1 ∷ 0 ∷ []) ∷ (257 ∷ 1 ∷ 0 ∷ 0 ∷ []) ∷ [])
-    ≡ kept ∷ replicate 6 (broken 0)
+    ((1 ∷ 1 ∷ 0 ∷ 0 ∷ []) ∷ (0 ∷ 1 ∷ 0 ∷ 0 ∷ []) ∷ (2 ∷ 1 ∷ 0 ∷ 0 ∷ []) ∷ (1 ∷ 0 ∷ 0 ∷ 0 ∷ []) ∷ (1 ∷ 2 ∷ 0 ∷ 0 ∷ []) ∷ (257 ∷ 1 ∷ 0 ∷ 0 ∷ []) ∷ [])
+    ≡ kept ∷ replicate 5 (broken 0)
 unfolding numbered computed
 rule-15 = refl
+
+-- the minor revision: 0 and 1 alone, and 1 excuses no other number
+pub rule-15-minor : map (λ n. rule15 (numbered (1 ∷ 1 ∷ n ∷ 0 ∷ []))) (0 ∷ 1 ∷ 2 ∷ 3 ∷ 256 ∷ 257 ∷ 65535 ∷ [])
+    ++ map (λ ns. rule15 (numbered ns)) ((0 ∷ 1 ∷ 1 ∷ 0 ∷ []) ∷ (1 ∷ 0 ∷ 1 ∷ 0 ∷ []) ∷ (1 ∷ 2 ∷ 1 ∷ 0 ∷ []) ∷ (1 ∷ 1 ∷ 1 ∷ 1 ∷ []) ∷ [])
+    ≡ kept ∷ kept ∷ replicate 9 (broken 0)
+unfolding numbered computed
+rule-15-minor = refl
 
 -- count 4 + 4K: K = 0, 1, 256 and 257, with that many numbers, and with one fewer
 unfoldable pub sized : ℕ → ℕ → Outcome

@@ -11,7 +11,7 @@ use lib.Seq.{ext-getD, take-append-seam, drop-append-seam}
 use borrow.Author.Tests.{eqb-true, leb-true, lt-ltb, le-ltb, ltb-true, not-false}
 use Rattle.paper.specs.Bytes.{num, enc, build, elems}
 use Rattle.paper.specs.Outcome.{Outcome, kept, broken, breaks, firstBad, orElse, first, verdict}
-use Rattle.paper.specs.Keys.{Runs, short, keyCount, keyAt, keys, noKey, room, rightPlace, misplaced, kindOf, rule17}
+use Rattle.paper.specs.Keys.{Runs, short, minorRevision, keyCount, keyAt, keys, noKey, room, rightPlace, misplaced, kindOf, rule17}
 use Rattle.paper.specs.Judge.{view, runsOf, verdictOf}
 use Rattle.paper.specs.Calls.{backOf}
 use Rattle.paper.specs.Block.{joined, encs, elements, valuesAt, shortValues, doubleValues, characterValues, countAt, newIndex, withIndex, movedKeys, entryNumbers}
@@ -111,7 +111,7 @@ directory-long r =
     let vs : List ℕ = joined (valuesAt (r .big) 34735 2 (r .directory)) (keys r) in
     omega (
       arith,
-      length-encs 2 (1 ∷ 1 ∷ 0 ∷ keyCount r ∷ es ++ vs),
+      length-encs 2 (1 ∷ 1 ∷ minorRevision r ∷ keyCount r ∷ es ++ vs),
       length-append es vs,
       length-entries (movedKeys r),
       length-movedKeys r,
@@ -176,7 +176,7 @@ module _ (r : Runs) (kept17 : rule17 r (keys r) ≡ kept) where
 -- ---- the block in its three runs
 
 module _ (r : Runs) (ok : Writable r) where
-  header : numbersFrom 2 (written r .directory) 0 4 ≡ 1 ∷ 1 ∷ 0 ∷ keyCount r ∷ []
+  header : numbersFrom 2 (written r .directory) 0 4 ≡ 1 ∷ 1 ∷ minorRevision r ∷ keyCount r ∷ []
   unfolding numbersFrom numberAt build written backOf short directoryNumbers
   header = λ d. short-back r ok 0 d ∷ short-back r ok 1 d ∷ short-back r ok 2 d ∷ short-back r ok 3 d ∷ []
 
@@ -240,7 +240,7 @@ module _ (f out : List ℕ) (bytes : Bytes f) (z : blockOf f (length out) .verdi
       let ok : Writable r = can-write f out bytes z in
       let runs : written r ≡ lentRuns (blockLeft f out) (blockOf f (length out)) = sym (lent-written f out z) in
       record {
-        header = subst (λ (s : Runs). numbersFrom 2 (s .directory) 0 4 ≡ 1 ∷ 1 ∷ 0 ∷ keyCount r ∷ []) runs (header r ok);
+        header = subst (λ (s : Runs). numbersFrom 2 (s .directory) 0 4 ≡ 1 ∷ 1 ∷ minorRevision r ∷ keyCount r ∷ []) runs (header r ok);
         each = λ i h. subst (λ (s : Runs). LaidEntry r s i) runs (laid-entry r ok i h);
         directory = ap (λ (b : Block). b .directory) (block-is f (length out) z) ∙ directory-long r;
         doubles = ap (λ (b : Block). b .doubles) (block-is f (length out) z) ∙ doubles-long r;

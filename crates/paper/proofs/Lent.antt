@@ -127,13 +127,14 @@ numbers f =
 
 -- ---- what stands beside a refusal
 
--- georeference and corners
+-- K, the minor revision, georeference and corners
 abbrev Nowhere : Judged → Type 0
 Nowhere j =
     j
     ≡ record {
       verdict = j .verdict;
       keys = 0;
+      minor = 0;
       georeference = Scaled plusZero plusZero plusZero plusZero plusZero plusZero;
       corners = record { x0 = plusZero; y0 = plusZero; x1 = plusZero; y1 = plusZero };
     }
@@ -375,7 +376,10 @@ writes f = record { rows = λ lent. rows-left f lent .1; output = λ out. block-
 pub reads : (r : Runs) → Reads r
 unfolding readRuns keyRules all some
 reads r =
-    record { number = first-gives (15 ∷ 16 ∷ 17 ∷ 18 ∷ 19 ∷ []) (keyRules r) refl refl; refused = λ n. counted-none _ _ n }
+    record {
+      number = first-gives (15 ∷ 16 ∷ 17 ∷ 18 ∷ 19 ∷ []) (keyRules r) refl refl;
+      refused = λ n. rw (ne-eqb (first (keyRules r) .number) 0 n);
+    }
 
 pub guarded : (f : List ℕ) → Guarded f
 guarded f = record { numbers = numbers f; named = named f; refusals = refusals f; writes = writes f }

@@ -20,6 +20,7 @@ pub mod Listed
 pub mod Kept
 pub mod Several
 pub mod Once
+pub mod Minor
 pub mod Citation
 pub mod Metadata
 pub mod Texts
@@ -42,6 +43,7 @@ pub mod TagBoundaries
 pub mod KeyBoundaries
 pub mod Tiled
 pub mod Repeated
+pub mod Revised
 pub mod Tables
 -- laws that the proofs of code cite
 pub mod Laws

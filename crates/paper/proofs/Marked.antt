@@ -97,9 +97,11 @@ changed i bs = sets fileA i bs
 
 -- ---- the table of marked examples
 
--- a file, the rows that are lent, and what two calls answer: the judgement its verdict with place, K and the corners, the rows call its verdict and K
+-- a file, the rows that are lent, and what two calls answer: the judgement its verdict with place, K, the minor revision and the corners, the rows call its
+-- verdict and K
 pub record Answers : Type 0 where
   pub judged : Counted
+  pub minor : ℕ
   pub corners : Corners
   pub rows : Counted
 
@@ -112,9 +114,9 @@ unfoldable pub count : Verdict → ℕ → Counted
 count v k = record { verdict = v; keys = k }
 
 -- the same verdict and K from both
-unfoldable pub answers : Verdict → ℕ → Corners → Answers
+unfoldable pub answers : Verdict → ℕ → ℕ → Corners → Answers
 unfolding count
-answers v k c = record { judged = count v k; corners = c; rows = count v k }
+answers v k m c = record { judged = count v k; minor = m; corners = c; rows = count v k }
 
 -- k halves, as a double
 unfoldable pub half : ℕ → Float
@@ -135,21 +137,21 @@ point : Corners
 unfolding halves
 point = halves 1000000 8000000 1000003 7999999
 
-unfoldable pub accepted : List ℕ → ℕ → Corners → Example
+unfoldable pub accepted : List ℕ → ℕ → ℕ → Corners → Example
 unfolding answers
-accepted f k c = record { file = f; lent = 256; gives = answers (verdict 0 0) k c }
+accepted f k m c = record { file = f; lent = 256; gives = answers (verdict 0 0) k m c }
 
 unfoldable pub refused : List ℕ → ℕ → ℕ → Example
 unfolding answers
-refused f k p = record { file = f; lent = 256; gives = answers (verdict k p) 0 noCorners }
+refused f k p = record { file = f; lent = 256; gives = answers (verdict k p) 0 0 noCorners }
 
 pub examples : List Example
 unfolding accepted refused count area point fileA changed enc
 examples =
     -- A
-    accepted fileA 3 area
+    accepted fileA 3 0 area
     -- 1025 = 2
-    ∷ accepted (changed 252 (enc 2 2)) 3 point
+    ∷ accepted (changed 252 (enc 2 2)) 3 0 point
     -- empty
     ∷ refused [] 1 0
     -- 4D 4D at the start
@@ -159,8 +161,10 @@ examples =
     -- strip at 263, and at 261
     ∷ refused (changed 78 (enc 2 263)) 13 0
     ∷ refused (changed 78 (enc 2 261)) 14 0
-    -- minor revision 1
-    ∷ refused (changed 234 (enc 2 1)) 15 0
+    -- minor revision 1: accepted by C-13, and the judgement shows it
+    ∷ accepted (changed 234 (enc 2 1)) 3 1 area
+    -- minor revision 2
+    ∷ refused (changed 234 (enc 2 2)) 15 0
     -- 1024 and 1025 exchanged
     ∷ refused (changed 238 (enc 2 1025 ++ enc 2 0 ++ enc 2 1 ++ enc 2 1 ++ enc 2 1024)) 16 1024
     -- key 1025 at location 34737
@@ -172,7 +176,7 @@ examples =
     -- scale X = 0
     ∷ refused (changed 158 (enc 8 0)) 21 33550
     -- two rows lent: the rows call alone refuses, with no K; the judgement of A is as before
-    ∷ record { file = fileA; lent = 2; gives = record { judged = count (verdict 0 0) 3; corners = area; rows = count (verdict 23 3) 0 } }
+    ∷ record { file = fileA; lent = 2; gives = record { judged = count (verdict 0 0) 3; minor = 0; corners = area; rows = count (verdict 23 3) 0 } }
     ∷ []
 
 -- what the definitions answer for a file, with m rows lent
@@ -181,6 +185,7 @@ answered m f =
     let j : Judged = judgedOf f in
     record {
       judged = record { verdict = j .verdict; keys = j .keys };
+      minor = j .minor;
       corners = j .corners;
       rows = rowsOf f m;
     }

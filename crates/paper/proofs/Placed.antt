@@ -74,7 +74,7 @@ unfolding bits
 cornered a b c d = record { x0 = bits a; y0 = bits b; x1 = bits c; y1 = bits d }
 
 unfoldable pub onGround : Georeference → Corners → Judged
-onGround g c = record { verdict = verdict 0 0; keys = 3; georeference = g; corners = c }
+onGround g c = record { verdict = verdict 0 0; keys = 3; minor = 0; georeference = g; corners = c }
 
 unfoldable pub scaledA : Georeference
 unfolding bits

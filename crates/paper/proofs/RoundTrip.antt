@@ -1,4 +1,4 @@
--- A key block that is written and read back: verdict 0, the same K, the same keys and values. Assumes nothing.
+-- A key block that is written and read back: verdict 0, the same K and minor revision, the same keys and values. Assumes nothing.
 use Prim.Native.Nat.{ℕ, zero, suc, _+_, _-_, _*_, _/_, _^_, _≤_, _<_}
 use mathlib.Core.Path.{_≡_, refl, sym, ap, ap₂, _∙_, subst}
 use mathlib.Core.Bool.{Bool, true, false, cond, not, _||_, _&&_}
@@ -11,10 +11,10 @@ use lib.Seq.{ext-getD, drop-append-add, getD-append-add}
 use borrow.Author.Tests.{eq-eqb, eqb-true, le-leb, le-ltb, leb-true, ltb-false, not-false}
 use Rattle.paper.specs.Bytes.{num, elems}
 use Rattle.paper.specs.Outcome.{kept, first, firstBad, verdict}
-use Rattle.paper.specs.Keys.{Runs, short, keyCount, keyAt, keys, rule15, rule16, rule17, rule18, rule19, keyRules, noKey, kindOf, room, within, rightPlace}
+use Rattle.paper.specs.Keys.{Runs, short, minorRevision, keyCount, keyAt, keys, rule15, rule16, rule17, rule18, rule19, keyRules, noKey, kindOf, room, within, rightPlace}
 use Rattle.paper.specs.Keys.{findKey, hasKey, fixedKeys, Fixed, fixed, forbidden, misplaced, kindIn, knownKeys}
 use Rattle.paper.specs.Tests.{all, allows}
-use Rattle.paper.specs.Calls.{backOf, readBack, readRuns, counted}
+use Rattle.paper.specs.Calls.{backOf, readBack, readRuns, blockRead}
 use Rattle.paper.specs.Block.{joined, encs, elements, valuesAt, shortValues, doubleValues, characterValues, countAt, newIndex, withIndex, moved, movedKeys}
 use Rattle.paper.specs.Block.{entryNumbers, directoryNumbers, blockDirectory, blockDoubles, blockCharacters, rule24, tooFar}
 use Rattle.paper.specs.Asked.{Bytes, elementsOf, SameKeys}
@@ -323,10 +323,10 @@ module _ (r : Runs) (ok : Writable r) where
       (below-four 65536 _ _ _ _ (b 0) (b 1) (b 2) (new-bound i h))
 
   below-directory : Below 65536 (directoryNumbers r)
-  unfolding directoryNumbers shortValues keyCount
+  unfolding directoryNumbers shortValues minorRevision keyCount
   below-directory =
-      below-append 65536 (1 ∷ 1 ∷ 0 ∷ short r 3 ∷ []) (joined entryNumbers (movedKeys r) ++ shortValues r)
-      (below-four 65536 1 1 0 (short r 3) (lit< tt) (lit< tt) (lit< tt) (short-bound r 3 (ok .bytes35)))
+      below-append 65536 (1 ∷ 1 ∷ short r 2 ∷ short r 3 ∷ []) (joined entryNumbers (movedKeys r) ++ shortValues r)
+      (below-four 65536 1 1 (short r 2) (short r 3) (lit< tt) (lit< tt) (short-bound r 2 (ok .bytes35)) (short-bound r 3 (ok .bytes35)))
       (below-append 65536 (joined entryNumbers (movedKeys r)) (shortValues r) (below-joined 65536 entryNumbers noKey (movedKeys r) (lit< tt) below-moved)
       (below-joined 65536 (valuesAt (r .big) 34735 2 (r .directory)) noKey (keys r) (lit< tt) (λ i l. below-values (r .big) 34735 2 (r .directory) (Old i) (ok .bytes35))))
 
@@ -344,7 +344,7 @@ module _ (r : Runs) (ok : Writable r) where
 
   -- the numbers before the arrays of location 34735
   abbrev Front : List ℕ
-  Front = 1 ∷ 1 ∷ 0 ∷ keyCount r ∷ joined entryNumbers (movedKeys r)
+  Front = 1 ∷ 1 ∷ minorRevision r ∷ keyCount r ∷ joined entryNumbers (movedKeys r)
 
   length-front : length Front ≡ 4 + 4 * keyCount r
   length-front = omega (arith, length-entries (movedKeys r), length-movedKeys r)
@@ -388,6 +388,10 @@ module _ (r : Runs) (ok : Writable r) where
   unfolding short written backOf blockDirectory
   short-back i = num-encs 2 (directoryNumbers r) i below-directory
 
+  pub minor-back : minorRevision (written r) ≡ minorRevision r
+  unfolding minorRevision directoryNumbers
+  minor-back = short-back 2
+
   pub count-back : keyCount (written r) ≡ keyCount r
   unfolding keyCount directoryNumbers
   count-back = short-back 3
@@ -397,7 +401,7 @@ module _ (r : Runs) (ok : Writable r) where
   unfolding directoryNumbers
   entry-back i j h l =
       short-back (4 + (4 * i + j))
-      ∙ four 1 1 0 (keyCount r) (joined entryNumbers (movedKeys r) ++ shortValues r) (4 * i + j)
+      ∙ four 1 1 (minorRevision r) (keyCount r) (joined entryNumbers (movedKeys r) ++ shortValues r) (4 * i + j)
       ∙ entries-at (movedKeys r) (shortValues r) i j (omega (arith, length-movedKeys r)) l
 
   keyAt-back : (i : ℕ) → i < keyCount r → keyAt (written r) i ≡ getD (movedKeys r) i noKey
@@ -432,8 +436,8 @@ module _ (r : Runs) (ok : Writable r) where
   rule15-back =
       let a : short (written r) 0 ≡ 1 = short-back 0 in
       let b : short (written r) 1 ≡ 1 = short-back 1 in
-      let c : short (written r) 2 ≡ 0 = short-back 2 in
-      rw (a, b, c, count-back, le-ltb _ _ (header-kept r (ok .kept15) .few), le-ltb _ _ long-back)
+      let h = header-kept r (ok .kept15) in
+      rw (a, b, minor-back, le-ltb _ _ (h .minor), count-back, le-ltb _ _ (h .few), le-ltb _ _ long-back)
 
   rule16-back : rule16 (keys (written r)) ≡ kept
   unfolding rule16 movedKeys
@@ -510,10 +514,10 @@ module _ (r : Runs) (ok : Writable r) where
   unfolding keyRules first
   verdict-back = rw (rule15-back, rule16-back, rule17-back, rule18-back, rule19-back)
 
-  -- ---- written and read back: accepted, with the same K
-  pub round-trip : readBack (blockDirectory r) (blockDoubles r) (blockCharacters r) ≡ record { verdict = verdict 0 0; keys = keyCount r }
+  -- ---- written and read back: accepted, with the same K and the same minor revision
+  pub round-trip : readBack (blockDirectory r) (blockDoubles r) (blockCharacters r) ≡ record { verdict = verdict 0 0; keys = keyCount r; minor = minorRevision r }
   unfolding readBack readRuns written
-  round-trip = ap₂ counted verdict-back count-back
+  round-trip = λ i. blockRead (verdict-back i) (count-back i) (minor-back i)
 
   -- ---- and the same keys in the same order, with the same values
 

@@ -1,9 +1,10 @@
 -- The keys and rows of an accepted file: each row names the part of the file that holds its key's value, and the rows after the first K keep their
 -- content. Assumes nothing.
-use Prim.Native.Nat.{ℕ, suc, _+_, _-_, _*_, _/_, _≤_, _<_}
+use Prim.Native.Nat.{ℕ, zero, suc, _+_, _-_, _*_, _/_, _≤_, _<_}
 use mathlib.Core.Path.{_≡_, refl, sym, ap, ap₂, _∙_, subst}
 use mathlib.Core.Bool.{Bool, true, false, _||_, _&&_}
 use mathlib.Core.List.{List, [], _∷_, _++_}
+use mathlib.Core.Logic.{_⊎_, inl, inr}
 use native.Mathlib.Nat.{add-zero, zero-add, mul-add, mul-suc, mul-pos, mul-le-mul-left}
 use native.Mathlib.Omega.{arith}
 use lib.Dec.{eqb, leb, lit<}
@@ -14,7 +15,7 @@ use Rattle.paper.specs.Bytes.{run, num, build, elems}
 use Rattle.paper.specs.Outcome.{kept}
 use Rattle.paper.specs.Tag
 use Rattle.paper.specs.Tags.{bytesOf}
-use Rattle.paper.specs.Keys.{Runs, short, keys, keyAt, keyCount, noKey, rule15, rule17, misplaced, rightPlace, inEntry, within, room, kindOf}
+use Rattle.paper.specs.Keys.{Runs, short, keys, keyAt, minorRevision, keyCount, noKey, rule15, rule17, misplaced, rightPlace, inEntry, within, room, kindOf}
 use Rattle.paper.specs.Judge.{view, verdictOf, runsOf, headIn, viewAt}
 use Rattle.paper.specs.Calls.{judgedOf, judgedIn, notJudged, Starts, startsOf, rowOf, rowAt, rowsIn, rowsOver, rowsLeft}
 use Rattle.paper.specs.Block.{elements}
@@ -183,10 +184,28 @@ module _ (f : List ℕ) (z : verdictOf f .number ≡ 0) where
   unfolding keyCount
   fourth = refl
 
+  judged-minor : judgedOf f .minor ≡ minorRevision (runsOf (view f))
+  unfolding judgedOf judgedIn
+  judged-minor = ap (λ (j : Judged). j .minor) (answer-good f judgedIn notJudged z)
+
+  third : minorRevision (runsOf (view f)) ≡ short (runsOf (view f)) 2
+  unfolding minorRevision
+  third = refl
+
+  zero-one : (n : ℕ) → n ≤ 1 → (n ≡ 0) ⊎ (n ≡ 1)
+  zero-one zero h = inl refl
+  zero-one (suc zero) h = inr refl
+  zero-one (suc (suc n)) h = absurd (omega arith)
+
   pub keys-hold : KeysHold f
   unfolding keyAt
   keys-hold =
+      let header = header-kept (runsOf (view f)) (rule15-kept f z) in
       record {
+        version = sym (short-in 0 (omega arith)) ∙ header .version;
+        revision = sym (short-in 1 (omega arith)) ∙ header .revision;
+        minor = judged-minor ∙ third ∙ short-in 2 (omega arith);
+        zero-or-one = zero-one (judgedOf f .minor) (subst (λ (n : ℕ). n ≤ 1) (sym judged-minor) (header .minor));
         many = judged-keys ∙ fourth ∙ short-in 3 (omega arith);
         same = judged-keys;
         each = λ i h d. record {

@@ -11,7 +11,7 @@ use lib.ListN.{length, getD, take}
 use lib.Seq.{ext-getD, getD-drop}
 use borrow.Author.Tests.{eqb-true, ltb-true, ltb-false}
 use Rattle.paper.specs.Bytes.{run, num}
-use Rattle.paper.specs.Keys.{Runs, keyCount, keyAt, keys, noKey}
+use Rattle.paper.specs.Keys.{Runs, minorRevision, keyCount, keyAt, keys, noKey}
 use Rattle.paper.specs.Calls.{backOf}
 use Rattle.paper.specs.Asked.{Bytes, elementsOf, lentRuns}
 use Rattle.paper.specs.Laid.{numberAt, numbersFrom, total, base, startIndex, directoryLength, doublesLength, charactersLength, bytesNeeded}
@@ -128,8 +128,8 @@ module _ (r : Runs) (b : Block) (out x : List ℕ) (laid : LaidOut r b out x) wh
       λ i. backOf (run x 0 (laid .directory i)) (run x (laid .directory i) (laid .doubles i))
       (run x (laid .directory i + laid .doubles i) (laid .characters i))
 
-  cut-header : numbersFrom 2 (cut r x .directory) 0 4 ≡ 1 ∷ 1 ∷ 0 ∷ keyCount r ∷ []
-  cut-header = subst (λ (s : Runs). numbersFrom 2 (s .directory) 0 4 ≡ 1 ∷ 1 ∷ 0 ∷ keyCount r ∷ []) cut-is (laid .header)
+  cut-header : numbersFrom 2 (cut r x .directory) 0 4 ≡ 1 ∷ 1 ∷ minorRevision r ∷ keyCount r ∷ []
+  cut-header = subst (λ (s : Runs). numbersFrom 2 (s .directory) 0 4 ≡ 1 ∷ 1 ∷ minorRevision r ∷ keyCount r ∷ []) cut-is (laid .header)
 
   cut-each : (i : ℕ) → i < keyCount r → LaidEntry r (cut r x) i
   cut-each i h = subst (λ (s : Runs). LaidEntry r s i) cut-is (laid .each i h)

@@ -89,7 +89,7 @@ pub examples : List Example
 unfolding accepted refused halves area fileT changed both neither spread delivered front samples sides lies entry enc
 examples =
     -- T
-    accepted fileT 3 area
+    accepted fileT 3 0 area
     -- a strip tag beside the tiles, also of a type that is none; a tile tag beside the strips; tags of neither
     ∷ refused (both 3) 27 0
     ∷ refused (both 13) 27 0
@@ -115,12 +115,12 @@ examples =
     ∷ refused (changed 90 (enc 2 17)) 11 322
     ∷ refused (changed 102 (enc 2 17)) 11 323
     -- 322 = 323 = 4294967280, as LONG
-    ∷ accepted (sets (changed 84 (enc 2 4 ++ enc 4 1 ++ enc 4 4294967280)) 96 (enc 2 4 ++ enc 4 1 ++ enc 4 4294967280)) 3 area
+    ∷ accepted (sets (changed 84 (enc 2 4 ++ enc 4 1 ++ enc 4 4294967280)) 96 (enc 2 4 ++ enc 4 1 ++ enc 4 4294967280)) 3 0 area
     -- two offsets; two byte counts
     ∷ refused (changed 110 (enc 4 2 ++ enc 4 170)) 12 324
     ∷ refused (changed 122 (enc 4 2)) 12 325
     -- two across times two down is four: the area alone, rounded up once, would be two
-    ∷ accepted (spread 4) 3 (halves 1000000 8000000 1000017 7999983)
+    ∷ accepted (spread 4) 3 0 (halves 1000000 8000000 1000017 7999983)
     ∷ refused (spread 2) 12 324
     ∷ refused (spread 3) 12 324
     -- tile at 275, and at 273

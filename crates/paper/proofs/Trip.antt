@@ -1,4 +1,4 @@
--- The key block of an accepted file, as it stands in the lent bytes, reads back: verdict 0, the same K, the same keys with the same values.
+-- The key block of an accepted file, as it stands in the lent bytes, reads back: verdict 0, the same K and minor revision, the same keys with the same values.
 -- Assumes nothing.
 use Prim.Native.Nat.{ℕ, zero, suc, _+_}
 use mathlib.Core.Path.{_≡_, refl, sym, ap, _∙_, subst}
@@ -12,7 +12,7 @@ use Rattle.paper.specs.Bytes.{run}
 use Rattle.paper.specs.Outcome.{kept, _▸_, verdict}
 use Rattle.paper.specs.Tests.{all}
 use Rattle.paper.specs.Tags.{Line, table, hold, find, listed, bytesOf}
-use Rattle.paper.specs.Keys.{Runs, keyCount}
+use Rattle.paper.specs.Keys.{Runs, minorRevision, keyCount}
 use Rattle.paper.specs.Judge.{view, verdictOf, runsOf, viewAt, headIn, entriesIn}
 use Rattle.paper.specs.Calls.{accepts, answer, backOf, readRuns, readBack}
 use Rattle.paper.specs.Block.{blockOf, blockIn, blockOver, blockLeft, blockVerdict, blockBytes, blockDirectory, blockDoubles, blockCharacters, rule24, rule25}
@@ -151,8 +151,9 @@ module _ (f out : List ℕ) (bytes : Bytes f) (z : blockOf f (length out) .verdi
       let a = accepted-block f (length out) z in
       writable f bytes (a .0) (rule24-kept (length out) (runsOf (view f)) (a .1))
 
-  -- it is accepted, with the same K
-  pub read-accepted : readRuns (lentRuns (blockLeft f out) (blockOf f (length out))) ≡ record { verdict = verdict 0 0; keys = keyCount (runsOf (view f)) }
+  -- it is accepted, with the same K and the same minor revision
+  pub read-accepted : readRuns (lentRuns (blockLeft f out) (blockOf f (length out)))
+      ≡ record { verdict = verdict 0 0; keys = keyCount (runsOf (view f)); minor = minorRevision (runsOf (view f)) }
   unfolding readBack written
   read-accepted = ap readRuns (lent-written f out z) ∙ round-trip (runsOf (view f)) can-write
 

@@ -1,4 +1,4 @@
--- Document 01, 'Key block': what is written, rules 24 and 25. Assumes nothing.
+-- Document 01, 'Key block', with request C-13: what is written, rules 24 and 25. Assumes nothing.
 use Prim.Native.Nat.{ℕ, _+_, _*_}
 use mathlib.Core.Bool.{Bool, cond, not, _&&_}
 use mathlib.Core.List.{List, [], _∷_, _++_}
@@ -7,7 +7,7 @@ use lib.ListN.{length, drop}
 use Rattle.paper.specs.Bytes.{enc, elems}
 use Rattle.paper.specs.Outcome.{Outcome, breaks, firstBad, _▸_, first}
 use Rattle.paper.specs.Tag
-use Rattle.paper.specs.Keys.{Runs, keys, keyCount}
+use Rattle.paper.specs.Keys.{Runs, keys, minorRevision, keyCount}
 use Rattle.paper.specs.Judge.{runsOf}
 use Rattle.paper.specs.Calls.{accepts, answer}
 use Rattle.paper.specs.declared.Verdict.{Verdict}
@@ -68,8 +68,9 @@ entryNumbers e = e .key ∷ e .location ∷ e .count ∷ e .index ∷ []
 
 -- ---- the block
 
+-- the header has the minor revision that was read
 unfoldable pub directoryNumbers : Runs → List ℕ
-directoryNumbers r = 1 ∷ 1 ∷ 0 ∷ keyCount r ∷ (joined entryNumbers (movedKeys r) ++ shortValues r)
+directoryNumbers r = 1 ∷ 1 ∷ minorRevision r ∷ keyCount r ∷ (joined entryNumbers (movedKeys r) ++ shortValues r)
 
 unfoldable pub blockDirectory : Runs → List ℕ
 blockDirectory r = encs 2 (directoryNumbers r)

@@ -9,7 +9,7 @@ use Rattle.paper.specs.Outcome.{Outcome, breaks, _▸_, first, verdict}
 use Rattle.paper.specs.Tag
 use Rattle.paper.specs.Tests.{keep}
 use Rattle.paper.specs.Tags.{Held, absent, find}
-use Rattle.paper.specs.Keys.{Runs, keyAt, keyCount, keys, hasKey, findKey, asciiKind, kindOf, keyRules}
+use Rattle.paper.specs.Keys.{Runs, keyAt, minorRevision, keyCount, keys, hasKey, findKey, asciiKind, kindOf, keyRules}
 use Rattle.paper.specs.Ground.{corners, georeference, zero64}
 use Rattle.paper.specs.Judge.{View, view, runsOf, surveyOf, verdictOf}
 use Rattle.paper.specs.declared.Verdict.{Verdict}
@@ -21,6 +21,7 @@ use Rattle.paper.specs.declared.Georeference.{Georeference}
 use Rattle.paper.specs.declared.Georeference.the-variants.{Scaled}
 use Rattle.paper.specs.declared.Judged.{Judged}
 use Rattle.paper.specs.declared.Counted.{Counted}
+use Rattle.paper.specs.declared.BlockRead.{BlockRead}
 use Rattle.paper.specs.declared.Cited.{Cited}
 use Rattle.paper.specs.declared.Text.{Text}
 
@@ -31,7 +32,7 @@ accepts v = eqb (v .number) 0
 unfoldable pub answer : {A : Type 0} → List ℕ → (View → A) → (Verdict → A) → A
 answer f good bad = cond (accepts (verdictOf f)) (good (view f)) (bad (verdictOf f))
 
--- ---- the whole judgement: verdict, K and the place on the ground
+-- ---- the whole judgement: verdict, K, the minor revision and the place on the ground
 
 abbrev pub noCorners : Corners
 noCorners = record { x0 = zero64; y0 = zero64; x1 = zero64; y1 = zero64 }
@@ -44,12 +45,13 @@ judgedIn w =
     record {
       verdict = verdict 0 0;
       keys = keyCount (runsOf w);
+      minor = minorRevision (runsOf w);
       georeference = georeference (surveyOf w);
       corners = corners (surveyOf w);
     }
 
 abbrev pub notJudged : Verdict → Judged
-notJudged v = record { verdict = v; keys = 0; georeference = noGeoreference; corners = noCorners }
+notJudged v = record { verdict = v; keys = 0; minor = 0; georeference = noGeoreference; corners = noCorners }
 
 unfoldable pub judgedOf : List ℕ → Judged
 judgedOf f = answer f judgedIn notJudged
@@ -166,8 +168,12 @@ metadataText f k outside =
 unfoldable pub backOf : List ℕ → List ℕ → List ℕ → Runs
 backOf d x c = record { big = false; directory = d; doubles = x; characters = c }
 
-unfoldable pub readRuns : Runs → Counted
-readRuns r = counted (first (keyRules r)) (keyCount r)
+-- K and the minor revision, or 0 and 0 with any number but 0
+abbrev pub blockRead : Verdict → ℕ → ℕ → BlockRead
+blockRead v k m = record { verdict = v; keys = cond (accepts v) k 0; minor = cond (accepts v) m 0 }
 
-unfoldable pub readBack : List ℕ → List ℕ → List ℕ → Counted
+unfoldable pub readRuns : Runs → BlockRead
+readRuns r = blockRead (first (keyRules r)) (keyCount r) (minorRevision r)
+
+unfoldable pub readBack : List ℕ → List ℕ → List ℕ → BlockRead
 readBack d x c = readRuns (backOf d x c)

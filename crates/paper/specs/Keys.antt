@@ -1,4 +1,4 @@
--- Document 01, 'Keys', and rules 15 to 19, over three runs and a byte order. In a file the runs are the values of 34735, 34736 and 34737,
+-- Document 01, 'Keys', and rules 15 to 19, with request C-13, over three runs and a byte order. In a file the runs are the values of 34735, 34736 and 34737,
 -- and an absent tag is an empty run. The call that reads a key block back has the same three runs and no file. Assumes nothing.
 use Prim.Native.Nat.{ℕ, zero, suc, _+_, _-_, _*_, _/_}
 use mathlib.Core.Bool.{Bool, cond, not, _&&_, _||_}
@@ -22,6 +22,13 @@ pub record Runs : Type 0 where
 unfoldable pub short : Runs → ℕ → ℕ
 short r i = num (r .big) 2 (r .directory) (2 * i)
 
+-- the minor revision, the third number: 0, or 1 as writers of OGC 19-008r4 put it
+unfoldable pub minorRevision : Runs → ℕ
+minorRevision r = short r 2
+
+abbrev pub newestMinor : ℕ
+newestMinor = 1
+
 -- K, the fourth number
 unfoldable pub keyCount : Runs → ℕ
 keyCount r = short r 3
@@ -35,7 +42,7 @@ rule15 r =
     breaks
     (not (eqb (short r 0) 1)
     || (not (eqb (short r 1) 1)
-    || (not (eqb (short r 2) 0)
+    || (ltb newestMinor (minorRevision r)
     || (ltb mostKeys (keyCount r) || ltb (length (r .directory) / 2) (4 + 4 * keyCount r)))))
     0
 

@@ -1,4 +1,4 @@
--- Document 01, 'Key block', in its own words: where each number of the block stands, how long its three runs are, and what rules 24 and 25 refuse.
+-- Document 01, 'Key block', with request C-13, in their own words: where each number of the block stands, how long its three runs are, and what rules 24 and 25 refuse.
 -- `proofs/Laid` shows that the block which the call writes is laid out so. Assumes nothing.
 use Prim.Native.Nat.{ℕ, _+_, _*_, _≤_, _<_}
 use mathlib.Core.Path.{_≡_}
@@ -9,7 +9,7 @@ use lib.ListN.{length, take, drop}
 use Rattle.paper.specs.Bytes.{num, build}
 use Rattle.paper.specs.Outcome.{verdict}
 use Rattle.paper.specs.Tag
-use Rattle.paper.specs.Keys.{Runs, keyCount, keyAt, keys}
+use Rattle.paper.specs.Keys.{Runs, minorRevision, keyCount, keyAt, keys}
 use Rattle.paper.specs.Asked.{Bytes, elementsOf, lentRuns}
 use Rattle.paper.specs.Places.{FirstFault}
 use Rattle.paper.specs.declared.Verdict.{Verdict}
@@ -69,7 +69,7 @@ pub record LaidEntry (r s : Runs) (i : ℕ) : Type 0 where
 
 -- `left` is what the call with the answer b leaves of the lent bytes `out`
 pub record LaidOut (r : Runs) (b : Block) (out left : List ℕ) : Type 0 where
-  pub header : numbersFrom 2 (lentRuns left b .directory) 0 4 ≡ 1 ∷ 1 ∷ 0 ∷ keyCount r ∷ []
+  pub header : numbersFrom 2 (lentRuns left b .directory) 0 4 ≡ 1 ∷ 1 ∷ minorRevision r ∷ keyCount r ∷ []
   pub each : (i : ℕ) → i < keyCount r → LaidEntry r (lentRuns left b) i
   pub directory : b .directory ≡ directoryLength r
   pub doubles : b .doubles ≡ doublesLength r

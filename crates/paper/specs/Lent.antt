@@ -69,6 +69,7 @@ pub record Refusals (f : List ℕ) : Type 0 where
       ≡ record {
         verdict = judgedOf f .verdict;
         keys = 0;
+        minor = 0;
         georeference = Scaled plusZero plusZero plusZero plusZero plusZero plusZero;
         corners = record { x0 = plusZero; y0 = plusZero; x1 = plusZero; y1 = plusZero };
       }
@@ -118,7 +119,7 @@ pub record Named (f : List ℕ) : Type 0 where
 
 pub record Reads (r : Runs) : Type 0 where
   pub number : Gives (15 ∷ 16 ∷ 17 ∷ 18 ∷ 19 ∷ []) (readRuns r .verdict)
-  pub refused : Refused (readRuns r .verdict) → readRuns r ≡ record { verdict = readRuns r .verdict; keys = 0 }
+  pub refused : Refused (readRuns r .verdict) → readRuns r ≡ record { verdict = readRuns r .verdict; keys = 0; minor = 0 }
 
 -- ---- demand 1, of the calls on a file
 

@@ -59,8 +59,12 @@ keyIn f i = keyAt (runsOf (view f)) i
 unfoldable pub shortIn : List ℕ → ℕ → ℕ
 shortIn f j = num (headIn f .big) 2 f (startIn f Tag.keyDirectory + 2 * j)
 
--- K is the fourth number, and an entry is four: key, location, count, value index
+-- the header is 1, 1, the minor revision, which is 0 or 1, and K; an entry is four numbers: key, location, count, value index
 pub record KeysHold (f : List ℕ) : Type 0 where
+  pub version : shortIn f 0 ≡ 1
+  pub revision : shortIn f 1 ≡ 1
+  pub minor : judgedOf f .minor ≡ shortIn f 2
+  pub zero-or-one : (judgedOf f .minor ≡ 0) ⊎ (judgedOf f .minor ≡ 1)
   pub many : judgedOf f .keys ≡ shortIn f 3
   pub same : judgedOf f .keys ≡ keysIn f
   pub each : (i : ℕ) → i < keysIn f

@@ -73,18 +73,26 @@ pub struct Corners {
     pub y1: f64,
 }
 
-// The whole judgement of a file: verdict, the number of keys K, and its place on the ground.
+// The whole judgement of a file: verdict, the number of keys K, the minor revision of its key header, and its place on the ground.
 pub struct Judged {
     pub verdict: Verdict,
     pub keys: u32,
+    pub minor: u32,
     pub georeference: Georeference,
     pub corners: Corners,
 }
 
-// What the calls for rows and for reading a block back answer: verdict and K.
+// What the call for rows answers: verdict and K.
 pub struct Counted {
     pub verdict: Verdict,
     pub keys: u32,
+}
+
+// What the call that reads a key block back answers: verdict, K and the minor revision.
+pub struct BlockRead {
+    pub verdict: Verdict,
+    pub keys: u32,
+    pub minor: u32,
 }
 
 // Where a citation stands in the file.

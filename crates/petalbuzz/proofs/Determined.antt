@@ -14,6 +14,7 @@ use borrow.Fn.Read.{Read, all-models, no-know, r-last}
 use borrow.Fn.World.{World, Pr, ArgsD, ResD}
 use Rattle.paper.specs.declared.Judged.{Judged}
 use Rattle.paper.specs.declared.Counted.{Counted}
+use Rattle.paper.specs.declared.BlockRead.{BlockRead}
 use Rattle.paper.specs.declared.Row.{Row}
 use Rattle.paper.specs.declared.Cited.{Cited}
 use Rattle.paper.specs.declared.Text.{Text}
@@ -128,9 +129,10 @@ pub c-key-block-determined : Determined (List ℕ × ℕ × ℕ × List ℕ) c-k
     (λ κs x s. (now (s .1 .0), now (s .1 .1 .0), now (s .1 .1 .1 .0), now (s .1 .1 .1 .1 .0)))
 c-key-block-determined κs a x y s t p q = rw (p .0, p .1 .0, p .1 .1 .0, p .1 .1 .1, q .0, q .1 .0, q .1 .1 .0, q .1 .1 .1)
 
-pub read-block-determined : Determined Counted read-block.Learnt (λ κs x s. x)
+pub read-block-determined : Determined BlockRead read-block.Learnt (λ κs x s. x)
 read-block-determined κs a x y s t p q = p ∙ sym q
 
--- verdict, place, K
-pub c-read-block-determined : Determined (ℕ × ℕ × ℕ) c-read-block.Learnt (λ κs x s. (now (s .1 .1 .1 .0), now (s .1 .1 .1 .1 .0), now (s .1 .1 .1 .1 .1 .0)))
-c-read-block-determined κs a x y s t p q = rw (p .0, p .1 .0, p .1 .1, q .0, q .1 .0, q .1 .1)
+-- verdict, place, K, the minor revision
+pub c-read-block-determined : Determined (ℕ × ℕ × ℕ × ℕ) c-read-block.Learnt
+    (λ κs x s. (now (s .1 .1 .1 .0), now (s .1 .1 .1 .1 .0), now (s .1 .1 .1 .1 .1 .0), now (s .1 .1 .1 .1 .1 .1 .0)))
+c-read-block-determined κs a x y s t p q = rw (p .0, p .1 .0, p .1 .1 .0, p .1 .1 .1, q .0, q .1 .0, q .1 .1 .0, q .1 .1 .1)

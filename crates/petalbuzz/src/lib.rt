@@ -181,7 +181,7 @@ pub extern "C" fn petalbuzz_key_block(
     *lengths = [b.directory, b.doubles, b.characters];
 }
 
-// Three such runs read back without a file: verdict and place, and the number of keys.
+// Three such runs read back without a file: verdict and place, the number of keys, and the minor revision.
 #[no_mangle]
 pub extern "C" fn petalbuzz_read_block(
     directory: &[u8],
@@ -190,13 +190,16 @@ pub extern "C" fn petalbuzz_read_block(
     verdict: &mut u32,
     place: &mut u32,
     keys: &mut u32,
+    minor: &mut u32,
 )
     ensures verdict { λ _. ⌜ now (verdict .exit) ≡ readBack (now (directory .entry)) (now (doubles .entry)) (now (characters .entry)) .verdict .number ⌝ }
     ensures place { λ _. ⌜ now (place .exit) ≡ readBack (now (directory .entry)) (now (doubles .entry)) (now (characters .entry)) .verdict .place ⌝ }
     ensures keys { λ _. ⌜ now (keys .exit) ≡ readBack (now (directory .entry)) (now (doubles .entry)) (now (characters .entry)) .keys ⌝ }
+    ensures minor { λ _. ⌜ now (minor .exit) ≡ readBack (now (directory .entry)) (now (doubles .entry)) (now (characters .entry)) .minor ⌝ }
 {
     let k = block::read_block(directory, doubles, characters);
     *verdict = k.verdict.number;
     *place = k.verdict.place;
     *keys = k.keys;
+    *minor = k.minor;
 }

@@ -8,7 +8,7 @@ use lib.Dec.{eqb}
 use borrow.Author.Tests.{ne-eqb}
 use Rattle.paper.specs.Outcome.{first, verdict, _▷_}
 use Rattle.paper.specs.Tests.{all}
-use Rattle.paper.specs.Keys.{Runs, keyCount, keys, keyValue, keyRules}
+use Rattle.paper.specs.Keys.{Runs, minorRevision, keyCount, keys, keyValue, keyRules}
 use Rattle.paper.specs.Ground.{Survey}
 use Rattle.paper.specs.Judge.{groundRules}
 use Rattle.paper.specs.Calls.{notJudged}
@@ -54,8 +54,11 @@ module _ (r : Runs) (scale tiepoint matrix : List ℕ) (w l : ℕ) where
       keys-are : k .keys ≡ keyCount r
       keys-are = ap (λ (x : KeysJudged). x .keys) is ∙ judged.accepted r judged-zero .0
 
+      minor-is : k .minor ≡ minorRevision r
+      minor-is = ap (λ (x : KeysJudged). x .minor) is ∙ judged.accepted r judged-zero .1
+
       point-is : k .point ≡ eqb (keyValue 1025 (keys r)) 2
-      point-is = ap (λ (x : KeysJudged). x .point) is ∙ judged.accepted r judged-zero .1
+      point-is = ap (λ (x : KeysJudged). x .point) is ∙ judged.accepted r judged-zero .2
 
       -- the survey with the raster type that was found
       abbrev With : Bool → Survey
@@ -76,11 +79,11 @@ module _ (r : Runs) (scale tiepoint matrix : List ℕ) (w l : ℕ) where
         ground-bad n = refused-by (g .verdict) whole-is n
 
         pub none-bad : g .verdict .number ≡ 0
-            → record { verdict = verdict 0 0; keys = k .keys; georeference = g .georeference; corners = g .corners }
+            → record { verdict = verdict 0 0; keys = k .keys; minor = k .minor; georeference = g .georeference; corners = g .corners }
             ≡ surveyedOf r scale tiepoint matrix w l
         unfolding surveyedOf
         none-bad y =
             let q : first (groundRules Asked) .number ≡ 0 = ap (λ (x : Verdict). x .number) (sym ground-verdict) ∙ y in
             let h = ground-is ∙ taken.accepted Asked q in
             let e : eqb (first (keyRules r ++ groundRules Asked) .number) 0 ≡ eqb 0 0 = ap (λ (x : Verdict). eqb (x .number) 0) whole-is ∙ ap (λ (n : ℕ). eqb n 0) y in
-            rw (e, keys-are, h)
+            rw (e, keys-are, minor-is, h)

@@ -5,7 +5,7 @@ use mathlib.Core.List.{List, _++_}
 use lib.Dec.{eqb}
 use Rattle.paper.specs.Outcome.{first, verdict}
 use Rattle.paper.specs.Key
-use Rattle.paper.specs.Keys.{Runs, keyCount, keys, keyValue, keyRules}
+use Rattle.paper.specs.Keys.{Runs, minorRevision, keyCount, keys, keyValue, keyRules}
 use Rattle.paper.specs.Ground.{Survey, georeference, corners}
 use Rattle.paper.specs.Judge.{groundRules}
 use Rattle.paper.specs.Calls.{accepts, notJudged}
@@ -28,7 +28,7 @@ surveyWith r scale tiepoint matrix width length =
 abbrev pub judgedBy : Verdict → Runs → Survey → Judged
 judgedBy w r s =
     cond (accepts w)
-    (record { verdict = verdict 0 0; keys = keyCount r; georeference = georeference s; corners = corners s })
+    (record { verdict = verdict 0 0; keys = keyCount r; minor = minorRevision r; georeference = georeference s; corners = corners s })
     (notJudged w)
 
 unfoldable pub surveyedOf : Runs → List ℕ → List ℕ → List ℕ → ℕ → ℕ → Judged

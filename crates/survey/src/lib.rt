@@ -16,6 +16,7 @@ pub fn not_judged(verdict: Verdict) -> Judged
     Judged {
         verdict,
         keys: 0,
+        minor: 0,
         georeference: Georeference::Scaled {
             ti: 0.0,
             tj: 0.0,
@@ -64,6 +65,7 @@ pub fn judge_survey(
             place: 0,
         },
         keys: k.keys,
+        minor: k.minor,
         georeference,
         corners,
     }

@@ -8,7 +8,7 @@ use lib.ListN.{length}
 use Rattle.paper.specs.Bytes.{run, build}
 use Rattle.paper.specs.Tag
 use Rattle.paper.specs.Tags.{table, bytesOf}
-use Rattle.paper.specs.Keys.{short, keys, keyCount, keyAt, rule15}
+use Rattle.paper.specs.Keys.{short, keys, minorRevision, keyCount, keyAt, rule15}
 use Rattle.paper.specs.Judge.{view, runsOf, verdictOf}
 use Rattle.paper.specs.Calls.{judgedIn}
 use Rattle.paper.specs.declared.Judged.{Judged}
@@ -47,7 +47,7 @@ module _ (f : List ℕ) (zero : verdictOf f .number ≡ 0) where
   directory = stands f zero 17 (lit< tt)
 
   head-is : Headed (view f .head .big) (bytesOf Tag.keyDirectory (view f .held))
-  unfolding rule15 short keyCount runsOf
+  unfolding rule15 short minorRevision keyCount runsOf
   head-is = headed (view f .head .big) (bytesOf Tag.keyDirectory (view f .held)) (rule15 (runsOf (view f))) refl (rule15-kept f zero)
 
   in-view : Lists f (examinedIn (view f))

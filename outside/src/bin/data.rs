@@ -1,9 +1,9 @@
 //! Writes the files that the program `vectors` judges, with what it must print:
 //! data DIR [SEED] fills DIR/data, DIR/args and DIR/stdout. There is file A with
-//! its marked changes, a file of tiles and one of three metadata tags with
-//! changes of them, and for each clause of rules 1 to 22 and 27 the smallest
-//! targeted file beyond its boundary and within it, in both byte orders; files of
-//! other producers, which `field` has, are taken in as they are.
+//! its marked changes and one more, a file of tiles and one of three metadata
+//! tags with changes of them, and for each clause of rules 1 to 22 and 27 the
+//! smallest targeted file beyond its boundary and within it, in both byte orders;
+//! files of other producers, which `field` has, are taken in as they are.
 
 use outside::generator::plan::{Laid, Plan, Tag};
 use outside::generator::{random, targeted, Call};
@@ -31,17 +31,19 @@ fn main() {
     println!("{} files", files.len());
 }
 
-/// File A, and document 01's marked changes of it.
+/// File A, document 01's marked changes of it, and one more: the lowest minor
+/// revision that rule 15 refuses.
 fn marked() -> BTreeMap<String, Vec<u8>> {
     let a: &[u8] = include_bytes!("../../../crates/bench/stdin");
     let exchanged = [0x01, 0x04, 0, 0, 1, 0, 1, 0, 0x00, 0x04, 0, 0, 1, 0, 1, 0];
-    let changes: [(&str, usize, &[u8]); 12] = [
+    let changes: [(&str, usize, &[u8]); 13] = [
         ("as-it-is", 0, &[]),
         ("big-endian-mark", 0, &[0x4D, 0x4D]),
         ("next-offset-8", 154, &[8, 0, 0, 0]),
         ("strip-at-263", 78, &[0x07, 0x01]),
         ("strip-at-261", 78, &[0x05, 0x01]),
         ("minor-revision-1", 234, &[1, 0]),
+        ("minor-revision-2", 234, &[2, 0]),
         ("1024-and-1025-exchanged", 238, &exchanged),
         ("1025-at-34737", 248, &[0xB1, 0x87]),
         ("1024-is-2", 244, &[2, 0]),
@@ -79,8 +81,8 @@ fn tiles(order: Order) -> Plan {
     plan
 }
 
-/// Changes of the tags of that file.
-const TILED: [(&str, fn(&mut Plan)); 9] = [
+/// Changes of the tags and of the key header of that file.
+const TILED: [(&str, fn(&mut Plan)); 11] = [
     ("as-it-is", |_| ()),
     ("one-tile-of-the-largest-size", |plan| {
         plan.set(Tag::longs(322, &[4_294_967_280]));
@@ -96,6 +98,8 @@ const TILED: [(&str, fn(&mut Plan)); 9] = [
     }),
     ("9-277--323-absent", |plan| plan.tags.retain(|known| ![277, 323].contains(&known.tag))),
     ("12-324-one-quotient", |plan| set_tiles(plan, 4)),
+    ("minor-revision-1", |plan| plan.set_minor(1)),
+    ("15-minor-revision-2", |plan| plan.set_minor(2)),
 ];
 
 /// Changes of single bytes of that file.
@@ -143,7 +147,7 @@ fn tile_on(laid: &mut Laid, text: usize) {
 
 /// Changes of single bytes of the file of tiles with three metadata tags, of
 /// which the second is in its entry.
-const MOSAIC_BYTES: [(&str, fn(&mut Laid)); 17] = [
+const MOSAIC_BYTES: [(&str, fn(&mut Laid)); 19] = [
     ("as-it-is", |_| ()),
     ("50908-50909-50909", |laid| renamed(laid, [50908, 50909, 50909])),
     ("50909-50909-50910", |laid| renamed(laid, [50909, 50909, 50910])),
@@ -163,6 +167,8 @@ const MOSAIC_BYTES: [(&str, fn(&mut Laid)); 17] = [
     ("third-over-the-first", |laid| {
         laid.put_long(laid.all(50909)[2].entry + 8, laid.all(50909)[0].value as u32);
     }),
+    ("minor-revision-1", |laid| laid.put_short(laid.spot(34735).value + 4, 1)),
+    ("15-minor-revision-2", |laid| laid.put_short(laid.spot(34735).value + 4, 2)),
 ];
 
 /// That file and its changes, in both byte orders.

@@ -1,6 +1,6 @@
 //! Prints for each file what the reader gives: the lines of the bench program
-//! first, then georeference, corners, lengths of the key block, citations and
-//! metadata, all to be compared by hand.
+//! first, then the minor revision, georeference, corners, lengths of the key
+//! block, citations and metadata, all to be compared by hand.
 
 use outside::reader::{
     citation, judge, judge_clause, key_block, key_rows, metadata, reading_list, texts,
@@ -42,6 +42,7 @@ fn show(path: &str, file: &[u8]) {
     }
     println!("keys {}", judged.keys);
     rows(file);
+    println!("minor revision {}", judged.minor);
     match judged.georeference {
         Georeference::Scaled(six) => println!("scaled {}", hex(&six)),
         Georeference::Affine(six) => println!("affine {}", hex(&six)),

@@ -54,8 +54,8 @@ const PIECE: usize = 3;
 const STRIPS: u32 = 100_000;
 
 /// The mix with every second file damaged, drawn with at most one metadata
-/// tag, the same of each byte order alone, one file each of many strips and of
-/// many tiles, and files of many metadata tags.
+/// tag and of minor revision 0, the same of each byte order alone, one file each
+/// of many strips and of many tiles, and files of many metadata tags.
 fn write_all(folder: &Path) {
     let mix = || (0..).map(|number| plain_sample(SEED, number).file);
     let of_order = |mark: u8| mix().filter(move |file| file.first() == Some(&mark));

@@ -1,13 +1,13 @@
 //! Writes a module of theorems about the paper's definitions: for each clause
 //! the smallest targeted cases on both sides of its boundary, with one metadata
-//! tag or none and with more, and some random files, each with every answer that
-//! the second reader gives. The checker computes the definitions on each file
-//! and compares.
+//! tag or none and with more, accepted in either minor revision, and some random
+//! files, each with every answer that the second reader gives. The checker
+//! computes the definitions on each file and compares.
 
 use outside::generator::{random, targeted, Call, Case};
 use outside::reader::{
     citation, judge, key_block, key_rows, metadata, read_block, reading_list, several_texts, texts,
-    Block, Cited, Georeference, Judged, Row, Text, Verdict,
+    Block, Cited, Georeference, Judged, ReadBack, Row, Text, Verdict,
 };
 use std::collections::BTreeMap;
 use std::fmt::Write;
@@ -32,15 +32,25 @@ fn main() {
     eprintln!("{} theorems", page.number);
 }
 
-/// The smallest case of each clause and side, and of those with more than one
-/// metadata tag.
+/// The minor revision that a case shows: 0 where it is refused.
+fn minor(case: &Case) -> u32 {
+    match &case.call {
+        Call::ReadBlock([directory, doubles, characters]) => {
+            read_block(directory, doubles, characters).minor
+        }
+        _ => judge(&case.file).minor,
+    }
+}
+
+/// The smallest case of each clause and side, of those with more than one
+/// metadata tag, and of those of minor revision 1.
 fn chosen(cases: Vec<Case>) -> Vec<Case> {
-    let mut best: BTreeMap<(&'static str, bool, bool), Case> = BTreeMap::new();
+    let mut best: BTreeMap<(&'static str, bool, bool, u32), Case> = BTreeMap::new();
     for case in cases {
         if case.file.len() > LARGEST {
             continue;
         }
-        let kind = (case.clause, case.broken, several_texts(&case.file));
+        let kind = (case.clause, case.broken, several_texts(&case.file), minor(&case));
         match best.get(&kind) {
             Some(other) if other.file.len() <= case.file.len() => {}
             _ => {
@@ -105,13 +115,13 @@ impl Page {
             }
             Call::Block(room) => self.block(&case.file, *room, &why),
             Call::ReadBlock([directory, doubles, characters]) => {
-                let (verdict, keys) = read_block(directory, doubles, characters);
+                let ReadBack { verdict, keys, minor } = read_block(directory, doubles, characters);
                 let runs = [directory, doubles, characters].map(|run| format!("({})", bytes(run)));
-                self.theorem(
-                    &format!("readBack {}", runs.join(" ")),
-                    &counted(verdict, keys),
-                    &why,
+                let answer = format!(
+                    "record {{ verdict = {}; keys = {keys}; minor = {minor} }}",
+                    number(verdict)
                 );
+                self.theorem(&format!("readBack {}", runs.join(" ")), &answer, &why);
             }
         }
     }
@@ -262,9 +272,10 @@ fn judgement(judged: &Judged) -> String {
     let six: Vec<String> = six.iter().map(|x| format!("(double {})", x.to_bits())).collect();
     let four: Vec<String> = judged.corners.iter().map(|x| x.to_bits().to_string()).collect();
     format!(
-        "record {{ verdict = {}; keys = {}; georeference = {case} {}; corners = four {} }}",
+        "record {{ verdict = {}; keys = {}; minor = {}; georeference = {case} {}; corners = four {} }}",
         number(judged.verdict),
         judged.keys,
+        judged.minor,
         six.join(" "),
         four.join(" ")
     )

@@ -9,7 +9,7 @@ pub fn reply(question: &Question) -> Reply {
     let mut numbers = Numbers::default();
     let mut bytes = question.bytes();
     let room = &mut bytes[question.room()];
-    let [file, second, third] = question.runs;
+    let [file, second, _] = question.runs;
     let verdict = match question.symbol {
         Symbol::Judge => reader::judge(file).verdict,
         Symbol::Ground => ground(file, &mut numbers),
@@ -17,7 +17,7 @@ pub fn reply(question: &Question) -> Reply {
         Symbol::Citation => citation(file, question.asked, &mut numbers),
         Symbol::Metadata => metadata(file, second, question.asked, &mut numbers),
         Symbol::KeyBlock => key_block(file, room, &mut numbers),
-        Symbol::ReadBlock => counted(reader::read_block(file, second, third), &mut numbers),
+        Symbol::ReadBlock => read_block(question.runs, &mut numbers),
     };
     (numbers.verdict, numbers.place) = (verdict.number, verdict.place);
     Reply { numbers, bytes }
@@ -76,4 +76,10 @@ fn key_block(file: &[u8], room: &mut [u8], numbers: &mut Numbers) -> Verdict {
     let block = reader::key_block(file, room);
     numbers.wide[..3].copy_from_slice(&block.lengths.map(|length| length as u64));
     block.verdict
+}
+
+fn read_block([directory, doubles, characters]: [&[u8]; 3], numbers: &mut Numbers) -> Verdict {
+    let back = reader::read_block(directory, doubles, characters);
+    (numbers.third, numbers.fourth) = (back.keys, back.minor);
+    back.verdict
 }

@@ -63,6 +63,7 @@ extern "C" {
         verdict: *mut u32,
         place: *mut u32,
         keys: *mut u32,
+        minor: *mut u32,
     );
 }
 
@@ -134,7 +135,8 @@ unsafe fn call(question: &Question, lent: *mut u8, numbers: &mut Numbers) {
     let second = first.add(one);
     let third = second.add(two);
     let asked = question.asked;
-    let (v, p, t) = (&mut numbers.verdict, &mut numbers.place, &mut numbers.third);
+    let (v, p) = (&mut numbers.verdict, &mut numbers.place);
+    let (t, minor) = (&mut numbers.third, &mut numbers.fourth);
     let wide = numbers.wide.as_mut_ptr();
     let (start, length): (*mut usize, *mut usize) = (wide.cast(), wide.add(1).cast());
     match question.symbol {
@@ -146,6 +148,8 @@ unsafe fn call(question: &Question, lent: *mut u8, numbers: &mut Numbers) {
             petalbuzz_metadata(first, one, second, two, asked, v, p, t, start, length);
         }
         Symbol::KeyBlock => petalbuzz_key_block(first, one, out, room, v, p, wide.cast()),
-        Symbol::ReadBlock => petalbuzz_read_block(first, one, second, two, third, three, v, p, t),
+        Symbol::ReadBlock => {
+            petalbuzz_read_block(first, one, second, two, third, three, v, p, t, minor);
+        }
     }
 }

@@ -67,7 +67,8 @@ pub struct Numbers {
     pub place: u32,
     /// The form, the number of keys, or where a text is from.
     pub third: u32,
-    gap: u32,
+    /// The minor revision of a key block.
+    pub fourth: u32,
     /// Six doubles and four corners by their bits; start and length of a
     /// text; or the three lengths of a block.
     pub wide: [u64; 10],
@@ -75,8 +76,8 @@ pub struct Numbers {
 
 impl Default for Numbers {
     fn default() -> Self {
-        let (verdict, place, third, gap) = (UNWRITTEN, UNWRITTEN, UNWRITTEN, UNWRITTEN);
-        Numbers { verdict, place, third, gap, wide: [UNWRITTEN_WIDE; 10] }
+        let [verdict, place, third, fourth] = [UNWRITTEN; 4];
+        Numbers { verdict, place, third, fourth, wide: [UNWRITTEN_WIDE; 10] }
     }
 }
 
@@ -92,7 +93,7 @@ impl Numbers {
             verdict: word(0),
             place: word(4),
             third: word(8),
-            gap: word(12),
+            fourth: word(12),
             wide: std::array::from_fn(|i| wide(16 + 8 * i)),
         }
     }

@@ -122,7 +122,8 @@ pub fn rules15to19<const BIG: bool>(file: &[u8], tags: &Tags) -> Result<u16, Ref
     let Some((header, rest)) = run.split_first_chunk::<8>() else { return refuse(15, 0) };
     let number = |at: usize| short_at::<BIG, 8>(header, 2 * at);
     let (keys, room) = (usize::from(number(3)), rest.as_chunks::<8>().0);
-    if (number(0), number(1), number(2)) != (1, 1, 0) || keys > 256 || room.len() < keys {
+    let right = (number(0), number(1)) == (1, 1) && number(2) <= 1;
+    if !right || keys > 256 || room.len() < keys {
         return refuse(15, 0);
     }
     let held = Held {

@@ -38,6 +38,26 @@ pub fn mosaic(mut laid: Laid, random: &mut Random) -> Vec<u8> {
     damage(laid, random)
 }
 
+/// The bytes of the file after damage of the header of its keys: one number or
+/// more of the four, near what rule 15 compares them with.
+pub fn header(mut laid: Laid, random: &mut Random) -> Vec<u8> {
+    let spot = laid.spot(34735);
+    let room = (spot.size as u16 / 2 - 4) / 4;
+    for _ in 0..random.pick(&[1, 1, 1, 2]) {
+        let (at, number) = match random.below(6) {
+            0 => (0, random.pick(&[0, 1, 2, 256])),
+            1 => (1, random.pick(&[0, 1, 2, 256])),
+            2 => (3, random.pick(&[0, room, room + 1, 256, 257, 65_535])),
+            _ => (2, random.pick(&[0, 1, 2, 3, 255, 256, 257, 65_535])),
+        };
+        laid.put_short(spot.value + 2 * at, number);
+    }
+    if random.chance(75) {
+        return laid.bytes;
+    }
+    damage(laid, random)
+}
+
 /// Overwrites a field of one metadata tag, or brings a piece and it together.
 fn text_field(laid: &mut Laid, random: &mut Random) {
     let text = random.pick(&laid.all(50909));

@@ -72,6 +72,7 @@ impl Keys {
         self
     }
 
+    /// The elements, of minor revision 0.
     pub fn encode(&self) -> Encoded {
         let header = 4 + 4 * self.list.len();
         let mut encoded = Encoded {
@@ -111,6 +112,12 @@ impl Keys {
 }
 
 impl Encoded {
+    /// The same of this minor revision.
+    pub fn of_minor(mut self, minor: u16) -> Self {
+        self.directory[2] = minor;
+        self
+    }
+
     /// The three little-endian runs of a key block with these elements.
     pub fn runs(&self) -> [Vec<u8>; 3] {
         [

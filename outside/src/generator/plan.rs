@@ -162,6 +162,14 @@ impl Plan {
         }
     }
 
+    /// Puts this minor revision into the header of the planned keys.
+    pub fn set_minor(&mut self, minor: u16) {
+        match &mut self.find(34735).value {
+            Value::Shorts(numbers) => numbers[2] = minor,
+            other => panic!("a key directory of {other:?}"),
+        }
+    }
+
     /// The size in bytes of a value as planned.
     fn size(&self, tag: &Tag) -> usize {
         match &tag.value {

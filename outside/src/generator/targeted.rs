@@ -13,6 +13,7 @@ mod keys;
 mod mosaics;
 mod pairs;
 mod pieces;
+mod revisions;
 mod tags;
 
 use super::prng::Random;
@@ -124,6 +125,7 @@ pub fn targeted(seed: u64) -> Vec<Case> {
         calls::cases(&mut bases, &mut cases);
         mosaics::cases(&mut bases, &mut cases);
         pairs::cases(&mut bases, &mut cases);
+        revisions::cases(&mut bases, &mut cases);
     }
     blocks::cases(&mut cases);
     cases.list

@@ -15,10 +15,9 @@ const UNKNOWN_TAGS: [u16; 16] =
 const UNKNOWN_KEYS: [u16; 14] =
     [0, 1, 1023, 1027, 2047, 2062, 3071, 3096, 4095, 4100, 32767, 60000, 65534, 65535];
 
-/// A laid out file that keeps every rule.
-pub fn file(random: &mut Random) -> Laid {
-    let plan = plan(random);
-    let mut laid = plan.lay();
+/// A laid out file of this minor revision that keeps every rule.
+pub fn file(random: &mut Random, minor: u16) -> Laid {
+    let mut laid = plan(random, minor).lay();
     if random.chance(25) {
         share_values(&mut laid, random);
     }
@@ -26,8 +25,8 @@ pub fn file(random: &mut Random) -> Laid {
 }
 
 /// The same with more than one metadata tag.
-pub fn mosaic(random: &mut Random) -> Laid {
-    let mut plan = plan(random);
+pub fn mosaic(random: &mut Random, minor: u16) -> Laid {
+    let mut plan = plan(random, minor);
     texts(&mut plan, random);
     let mut laid = plan.lay();
     if random.chance(25) {
@@ -40,14 +39,14 @@ pub fn mosaic(random: &mut Random) -> Laid {
 }
 
 /// A plan that keeps every rule.
-pub fn plan(random: &mut Random) -> Plan {
+fn plan(random: &mut Random, minor: u16) -> Plan {
     let mut plan = Plan::new(random.pick(&[Order::Little, Order::Big]));
     plan.fill = random.draw();
     plan.dirty = random.chance(70);
     picture(&mut plan, random);
     pieces(&mut plan, random);
     ground(&mut plan, random);
-    let keys = keys(random).encode();
+    let keys = keys(random).encode().of_minor(minor);
     plan.set_keys(&keys);
     if random.chance(50) {
         let count = random.pick(&[1, 2, 3, 4, 5, 6, 17, 40]);

@@ -45,12 +45,12 @@ impl Growing {
     }
 }
 
-/// Rule 24; the three runs where it is kept.
-pub fn write(runs: &Runs, keys: &[KeyEntry]) -> Result<[Vec<u8>; 3], Refusal> {
+/// Rule 24; the three runs where it is kept, of the minor revision that was read.
+pub fn write(runs: &Runs, minor: u16, keys: &[KeyEntry]) -> Result<[Vec<u8>; 3], Refusal> {
     let header = 4 + 4 * keys.len();
     let mut growing =
         Growing { numbers: vec![0; header], doubles: Vec::new(), characters: Vec::new() };
-    growing.numbers[..4].copy_from_slice(&[1, 1, 0, keys.len() as u16]);
+    growing.numbers[..4].copy_from_slice(&[1, 1, minor, keys.len() as u16]);
     for (position, entry) in keys.iter().enumerate() {
         let mut fourth = entry.index;
         if entry.location != 0 {
@@ -73,8 +73,12 @@ pub fn write(runs: &Runs, keys: &[KeyEntry]) -> Result<[Vec<u8>; 3], Refusal> {
     ])
 }
 
-/// Rules 15 to 19 on three runs; an empty run is an absent tag.
-fn examine(directory: &[u8], doubles: &[u8], characters: &[u8]) -> Result<usize, Refusal> {
+/// Rules 15 to 19 on three runs, as a request left them; an empty run is an
+/// absent tag.
+fn examine(
+    [directory, doubles, characters]: [&[u8]; 3],
+    rules: Rules,
+) -> Result<(u16, Vec<KeyEntry>), Refusal> {
     let present = |run| if <[u8]>::is_empty(run) { None } else { Some(run) };
     let runs = Runs {
         order: Order::Little,
@@ -82,14 +86,29 @@ fn examine(directory: &[u8], doubles: &[u8], characters: &[u8]) -> Result<usize,
         doubles: present(doubles),
         characters: present(characters),
     };
-    Ok(rules15to19(&runs)?.len())
+    rules15to19(&runs, rules)
 }
 
-/// Reads a key block without a file: the verdict and K.
-pub fn read_block(directory: &[u8], doubles: &[u8], characters: &[u8]) -> (Verdict, u32) {
-    match examine(directory, doubles, characters) {
-        Ok(keys) => (ACCEPTED, keys as u32),
-        Err(refusal) => (refusal.verdict, 0),
+/// The answer on a key block: K and the minor revision, both 0 if it is refused.
+#[derive(Clone, Copy, Debug, PartialEq, Eq)]
+pub struct ReadBack {
+    pub verdict: Verdict,
+    pub keys: u32,
+    pub minor: u32,
+}
+
+/// Reads a key block without a file.
+pub fn read_block(directory: &[u8], doubles: &[u8], characters: &[u8]) -> ReadBack {
+    read_block_by([directory, doubles, characters], IN_FORCE)
+}
+
+/// The same by the rules as a request left them.
+pub fn read_block_by(runs: [&[u8]; 3], rules: Rules) -> ReadBack {
+    match examine(runs, rules) {
+        Ok((minor, keys)) => {
+            ReadBack { verdict: ACCEPTED, keys: keys.len() as u32, minor: u32::from(minor) }
+        }
+        Err(refusal) => ReadBack { verdict: refusal.verdict, keys: 0, minor: 0 },
     }
 }
 
@@ -98,7 +117,7 @@ pub fn read_block_clause(
     doubles: &[u8],
     characters: &[u8],
 ) -> (Verdict, &'static str) {
-    match examine(directory, doubles, characters) {
+    match examine([directory, doubles, characters], IN_FORCE) {
         Ok(_) => (ACCEPTED, "accepted"),
         Err(refusal) => (refusal.verdict, registered(&format!("block {}", refusal.clause))),
     }

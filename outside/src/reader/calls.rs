@@ -13,11 +13,14 @@ use std::ops::Range;
 pub struct Judged {
     pub verdict: Verdict,
     pub keys: u32,
+    /// The minor revision of the key directory.
+    pub minor: u32,
     pub georeference: Georeference,
     pub corners: [f64; 4],
 }
 
-/// The verdict on a file, K, the georeference and the corners.
+/// The verdict on a file, K, the minor revision, the georeference and the
+/// corners.
 pub fn judge(file: &[u8]) -> Judged {
     judge_by(file, IN_FORCE)
 }
@@ -28,12 +31,14 @@ pub fn judge_by(file: &[u8], rules: Rules) -> Judged {
         Ok(accepted) => Judged {
             verdict: ACCEPTED,
             keys: accepted.keys.len() as u32,
+            minor: u32::from(accepted.minor),
             georeference: accepted.georeference,
             corners: accepted.corners,
         },
         Err(refusal) => Judged {
             verdict: refusal.verdict,
             keys: 0,
+            minor: 0,
             georeference: Georeference::Scaled([0.0; 6]),
             corners: [0.0; 4],
         },
@@ -216,9 +221,9 @@ pub struct Block {
 }
 
 /// Rules 1 to 22 and 27, then 24, then 25: the three runs of the key block.
-fn block_for(file: &[u8], room: usize) -> Result<[Vec<u8>; 3], Refusal> {
-    let accepted = examine(file, IN_FORCE)?;
-    let runs = block::write(&accepted.runs, &accepted.keys)?;
+fn block_for(file: &[u8], room: usize, rules: Rules) -> Result<[Vec<u8>; 3], Refusal> {
+    let accepted = examine(file, rules)?;
+    let runs = block::write(&accepted.runs, accepted.minor, &accepted.keys)?;
     let bytes: usize = runs.iter().map(Vec::len).sum();
     if room < bytes {
         return refuse(25, bytes as u32, "output too short");
@@ -228,7 +233,12 @@ fn block_for(file: &[u8], room: usize) -> Result<[Vec<u8>; 3], Refusal> {
 
 /// Writes the key block at the start of `out`.
 pub fn key_block(file: &[u8], out: &mut [u8]) -> Block {
-    match block_for(file, out.len()) {
+    key_block_by(file, out, IN_FORCE)
+}
+
+/// The same by the rules as a request left them.
+pub fn key_block_by(file: &[u8], out: &mut [u8], rules: Rules) -> Block {
+    match block_for(file, out.len(), rules) {
         Ok(runs) => {
             let whole = runs.concat();
             out[..whole.len()].copy_from_slice(&whole);
@@ -239,5 +249,5 @@ pub fn key_block(file: &[u8], out: &mut [u8]) -> Block {
 }
 
 pub fn key_block_clause(file: &[u8], room: usize) -> (Verdict, &'static str) {
-    named(block_for(file, room))
+    named(block_for(file, room, IN_FORCE))
 }

@@ -15,6 +15,8 @@ pub struct Accepted<'a> {
     pub family: Family,
     pub pieces: Pieces,
     pub runs: Runs<'a>,
+    /// The minor revision of the key directory.
+    pub minor: u16,
     pub keys: Vec<KeyEntry>,
     pub georeference: Georeference,
     pub corners: [f64; 4],
@@ -36,11 +38,11 @@ pub fn examine(file: &[u8], rules: Rules) -> Result<Accepted<'_>, Refusal> {
     rule13(&directory, &pieces)?;
     rule14(&directory, &pieces)?;
     let runs = runs(&directory);
-    let keys = rules15to19(&runs)?;
+    let (minor, keys) = rules15to19(&runs, rules)?;
     let georeference = rules20to21(&directory)?;
     let raster = number_of(&keys, RASTER).expect("rule 18 is kept");
     let corners = corners(&directory, raster, &georeference)?;
-    Ok(Accepted { directory, family, pieces, runs, keys, georeference, corners })
+    Ok(Accepted { directory, family, pieces, runs, minor, keys, georeference, corners })
 }
 
 /// The values of 34735, 34736 and 34737; rules 9 and 10 are kept.

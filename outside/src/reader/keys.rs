@@ -51,19 +51,21 @@ impl Runs<'_> {
     }
 }
 
-/// Rules 15 to 19; the entries of the key directory where all are kept.
-pub fn rules15to19(runs: &Runs) -> Result<Vec<KeyEntry>, Refusal> {
-    rule15(runs)?;
+/// Rules 15 to 19; the minor revision and the entries of the key directory
+/// where all are kept.
+pub fn rules15to19(runs: &Runs, rules: Rules) -> Result<(u16, Vec<KeyEntry>), Refusal> {
+    let minor = rule15(runs, rules)?;
     let entries = runs.entries();
     rule16(&entries)?;
     rule17(runs, &entries)?;
     rule18(&entries)?;
     rule19(&entries)?;
-    Ok(entries)
+    Ok((minor, entries))
 }
 
-/// Rule 15: the first four numbers, and room for K entries.
-fn rule15(runs: &Runs) -> Result<(), Refusal> {
+/// Rule 15: the first four numbers, and room for K entries. It says which minor
+/// revision the third number is.
+fn rule15(runs: &Runs, rules: Rules) -> Result<u16, Refusal> {
     let numbers = runs.directory.len() as u64 / 2;
     if numbers < 4 {
         return refuse(15, 0, "under 4 numbers");
@@ -74,7 +76,8 @@ fn rule15(runs: &Runs) -> Result<(), Refusal> {
     if runs.number(1) != 1 {
         return refuse(15, 0, "second number");
     }
-    if runs.number(2) != 0 {
+    let minor = runs.number(2);
+    if !rules.minors.contains(&minor) {
         return refuse(15, 0, "third number");
     }
     if runs.number(3) > MOST_KEYS {
@@ -83,7 +86,7 @@ fn rule15(runs: &Runs) -> Result<(), Refusal> {
     if numbers < 4 + 4 * u64::from(runs.number(3)) {
         return refuse(15, 0, "count below 4 + 4K");
     }
-    Ok(())
+    Ok(minor)
 }
 
 /// Rule 16: each key is greater than the one before.

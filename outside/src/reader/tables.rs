@@ -118,16 +118,21 @@ pub struct Rules {
     pub families: &'static [Family],
     /// The tags that rule 6 lets stand side by side.
     pub repeated: &'static [u16],
+    /// The minor revisions that rule 15 lets a key directory have.
+    pub minors: &'static [u16],
 }
 
-/// Every picture is in strips, and no tag stands twice.
-pub const DOCUMENT_01: Rules = Rules { families: &[Family::Strips], repeated: &[] };
+/// Every picture is in strips, no tag stands twice, and every key directory is
+/// of minor revision 0.
+pub const DOCUMENT_01: Rules = Rules { families: &[Family::Strips], repeated: &[], minors: &[0] };
 /// With tiles.
 pub const C_11: Rules = Rules { families: BOTH, ..DOCUMENT_01 };
 /// With more than one metadata tag.
 pub const C_12: Rules = Rules { repeated: &[METADATA], ..C_11 };
+/// With minor revision 1.
+pub const C_13: Rules = Rules { minors: &[0, 1], ..C_12 };
 /// The rules that every call goes by.
-pub const IN_FORCE: Rules = C_12;
+pub const IN_FORCE: Rules = C_13;
 
 impl Family {
     /// What one piece is called.

@@ -120,9 +120,12 @@ pub const VARIETIES: &[&str] = &[
     "empty citation",
     "citation in a directory entry",
     "array over the key header or entries",
+    "array over minor revision 1",
     "key values share elements",
     "key values out of order",
     "key directory with spare numbers",
+    "minor revision 0",
+    "minor revision 1",
     "key 0",
     "key 65535",
     "K 256",
@@ -350,6 +353,8 @@ fn of_keys(accepted: &Accepted) -> Vec<String> {
         (keys.iter().any(|e| e.key == 65535), "key 65535"),
         (keys.len() == 256, "K 256"),
         (numbers > 4 + 4 * keys.len(), "key directory with spare numbers"),
+        (accepted.minor == 0, "minor revision 0"),
+        (accepted.minor == 1, "minor revision 1"),
     ]));
     labels
 }
@@ -357,19 +362,24 @@ fn of_keys(accepted: &Accepted) -> Vec<String> {
 fn of_key_values(accepted: &Accepted) -> Vec<String> {
     let keys = &accepted.keys;
     let header = 4 + 4 * keys.len() as u64;
-    let (mut shared, mut unordered, mut over_header) = (false, false, false);
+    let (mut shared, mut unordered) = (false, false);
+    let (mut over_header, mut over_minor) = (false, false);
     for location in [KEY_DIRECTORY, DOUBLES, CHARACTERS] {
         let held = keys.iter().filter(|entry| entry.location == location);
         let ranges: Vec<Range<u64>> =
             held.map(|e| u64::from(e.index)..u64::from(e.index) + u64::from(e.count)).collect();
         shared |= pairwise_share(&ranges);
         unordered |= ranges.windows(2).any(|pair| pair[1].start < pair[0].start);
-        over_header |= location == KEY_DIRECTORY && ranges.iter().any(|r| r.start < header);
+        if location == KEY_DIRECTORY {
+            over_header = ranges.iter().any(|r| r.start < header);
+            over_minor = ranges.iter().any(|r| r.contains(&2));
+        }
     }
     chosen(&[
         (shared, "key values share elements"),
         (unordered, "key values out of order"),
         (over_header, "array over the key header or entries"),
+        (over_minor && accepted.minor == 1, "array over minor revision 1"),
     ])
 }
 

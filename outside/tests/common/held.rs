@@ -1,4 +1,5 @@
-//! The keys that a file or a key block holds, read apart from the reader.
+//! The keys that a file or a key block holds, and the header before them, read
+//! apart from the reader.
 
 /// A key with its location, count and elements, doubles by bits.
 pub type Held = (u64, u64, u64, Vec<u64>);
@@ -32,6 +33,11 @@ fn held(little: bool, [directory, doubles, characters]: [&[u8]; 3]) -> Vec<Held>
     list
 }
 
+/// The first four numbers of a key directory.
+fn header(little: bool, directory: &[u8]) -> [u64; 4] {
+    std::array::from_fn(|at| number(little, directory, 2 * at, 2))
+}
+
 /// The three runs of a file: the values of 34735, 34736 and 34737.
 fn runs(file: &[u8]) -> [&[u8]; 3] {
     let little = file[0] == b'I';
@@ -48,10 +54,13 @@ fn runs(file: &[u8]) -> [&[u8]; 3] {
 }
 
 /// Holds the three runs of a block to the accepted file that it is of: the
-/// same keys and values in the same order, without gaps or sharing.
+/// same header, and the same keys and values in the same order, without gaps or
+/// sharing.
 pub fn same_keys(file: &[u8], [directory, doubles, characters]: [&[u8]; 3]) {
+    let little = file[0] == b'I';
+    assert_eq!(header(true, directory), header(little, runs(file)[0]));
     let written = held(true, [directory, doubles, characters]);
-    assert_eq!(written, held(file[0] == b'I', runs(file)));
+    assert_eq!(written, held(little, runs(file)));
     let elements = |location: u64| -> usize {
         written.iter().filter(|held| held.1 == location).map(|held| held.3.len()).sum()
     };

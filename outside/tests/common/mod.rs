@@ -4,7 +4,7 @@
 pub mod held;
 pub mod questions;
 
-use outside::generator::keyplan::Encoded;
+use outside::generator::keyplan::{Encoded, Held, Keys};
 use outside::generator::plan::{Plan, Tag};
 use outside::generator::prng::Random;
 use outside::reader::tables::Family;
@@ -75,6 +75,15 @@ pub fn bits(corners: [f64; 4]) -> [u64; 4] {
     corners.map(f64::to_bits)
 }
 
+/// The three keys of file A.
+pub fn keys() -> Keys {
+    let mut keys = Keys::default();
+    for (key, number) in [(1024, 1), (1025, 1), (3072, 32633)] {
+        keys.set(key, Held::Number(number));
+    }
+    keys
+}
+
 /// A plan like file A in either order, with these keys and random free bytes.
 pub fn plan_like_a(order: Order, keys: &Encoded) -> Plan {
     let mut plan = Plan::new(order);
@@ -98,19 +107,40 @@ pub fn tiled(mut plan: Plan) -> Plan {
     plan
 }
 
-/// The tags of a file's directory, read apart from the reader; none where it
-/// has no whole one.
-pub fn tags(file: &[u8]) -> Vec<u16> {
-    let number = |at: usize, width: usize| -> Option<usize> {
-        let bytes = file.get(at..at + width)?;
-        Some(held::number(file[0] == b'I', bytes, 0, width) as usize)
-    };
-    let whole = || -> Option<Vec<u16>> {
-        let directory = number(4, 4)?;
-        let entries = 0..number(directory, 2)?;
-        entries.map(|at| number(directory + 2 + 12 * at, 2).map(|tag| tag as u16)).collect()
+/// The number of so many bytes at a place of a file, where it has them.
+fn number(file: &[u8], at: usize, width: usize) -> Option<usize> {
+    let bytes = file.get(at..at + width)?;
+    Some(held::number(file[0] == b'I', bytes, 0, width) as usize)
+}
+
+/// The tags of a file's directory with the places of their entries, read apart
+/// from the reader; none where it has no whole one.
+fn entries(file: &[u8]) -> Vec<(u16, usize)> {
+    let whole = || -> Option<Vec<(u16, usize)>> {
+        let directory = number(file, 4, 4)?;
+        let places = (0..number(file, directory, 2)?).map(|at| directory + 2 + 12 * at);
+        places.map(|at| number(file, at, 2).map(|tag| (tag as u16, at))).collect()
     };
     whole().unwrap_or_default()
+}
+
+/// The tags of a file's directory; none where it has no whole one.
+pub fn tags(file: &[u8]) -> Vec<u16> {
+    entries(file).into_iter().map(|(tag, _)| tag).collect()
+}
+
+/// Where the minor revision of a file's key directory stands, read apart from
+/// the reader; none where it has no header of four numbers.
+pub fn minor_at(file: &[u8]) -> Option<usize> {
+    let (_, entry) = entries(file).into_iter().find(|(tag, _)| *tag == 34735)?;
+    let count = number(file, entry + 4, 4)?;
+    let start = number(file, entry + 8, 4)?;
+    (count >= 4 && start + 8 <= file.len()).then_some(start + 4)
+}
+
+/// The minor revision itself.
+pub fn minor(file: &[u8]) -> Option<usize> {
+    number(file, minor_at(file)?, 2)
 }
 
 /// The files of real producers, as outside/real makes them.

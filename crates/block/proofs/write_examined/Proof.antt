@@ -23,30 +23,29 @@ value-requires-3 c κs =
 cast-write-runs : tie.Need-cast-write-runs
 cast-write-runs c = search needs
 
+cast-write-runs-2 : tie.Need-cast-write-runs-2
+cast-write-runs-2 c = search needs
+
 write-runs-requires : tie.Need-write-runs-requires
 write-runs-requires c κs =
-    let a = c .before .before .before .before .before .before .before .args in
-    sound (a .file .now) (a .e) (c .before .before .before .before .before .before .before .pre .0)
-    (c .before .before .before .before .before .before .before .pre .1) _ _ _ (c .before .before .before .before .value .ensures)
-    (c .before .before .before .value2 .ensures) (c .before .before .value3 .ensures)
+    let v = c .before .before .before in
+    let s = v .before .before .before .before .before in
+    sound (s .args .file .now) (s .args .e) (s .pre .0) (s .pre .1) _ _ _ (v .before .before .value .ensures) (v .before .value2 .ensures) (v .value3 .ensures)
 
 same-length : tie.Need-same-length
 same-length c = search needs
 
 returns : tie.Need-returns
 returns c =
-    let a = c .before .before .before .before .before .before .before .before .before .before .args in (
-      c .before .before .write-runs .ensures .0
-          ∙ block-of (a .file .now) (a .e) (c .before .before .before .before .before .before .before .before .before .before .pre .0)
-          (c .before .before .before .before .before .before .before .before .before .before .pre .1) _ _ _
-          (c .before .before .before .before .before .before .before .value .ensures)
-          (c .before .before .before .before .before .before .value2 .ensures) (c .before .before .before .before .before .value3 .ensures) _,
-      c .before .before .write-runs .ensures .1
-          ∙ block-left (a .file .now) (a .e) (c .before .before .before .before .before .before .before .before .before .before .pre .0)
-          (c .before .before .before .before .before .before .before .before .before .before .pre .1) _ _ _
-          (c .before .before .before .before .before .before .before .value .ensures)
-          (c .before .before .before .before .before .before .value2 .ensures) (c .before .before .before .before .before .value3 .ensures)
-          (a .out .now),
+    let w = c .before .before in
+    let v = w .before .before .before .before in
+    let s = v .before .before .before .before .before in (
+      w .write-runs .ensures .0
+          ∙ block-of (s .args .file .now) (s .args .e) (s .pre .0) (s .pre .1) _ _ _ (v .before .before .value .ensures) (v .before .value2 .ensures)
+          (v .value3 .ensures) _,
+      w .write-runs .ensures .1
+          ∙ block-left (s .args .file .now) (s .args .e) (s .pre .0) (s .pre .1) _ _ _ (v .before .before .value .ensures) (v .before .value2 .ensures)
+          (v .value3 .ensures) (s .args .out .now),
     )
 
 pub write-examined-spec : {M : Type 1} → statement M
@@ -57,6 +56,7 @@ write-examined-spec =
     value-requires-2
     value-requires-3
     cast-write-runs
+    cast-write-runs-2
     write-runs-requires
     same-length
     returns)

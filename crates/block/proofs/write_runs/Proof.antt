@@ -8,8 +8,8 @@ use Rattle.block.proofs.write_runs.Tie as tie
 measure-requires : tie.Need-measure-requires
 measure-requires c κs =
     let a = c .before .before .before .before .args in (
-      few (a .big) (a .directory .now) (a .doubles .now) (a .characters .now) (a .count) (c .before .before .before .before .pre),
-      whole (a .big) (a .directory .now) (a .doubles .now) (a .characters .now) (a .count) (c .before .before .before .before .pre),
+      few (a .big) (a .directory .now) (a .doubles .now) (a .characters .now) (a .minor) (a .count) (c .before .before .before .before .pre),
+      whole (a .big) (a .directory .now) (a .doubles .now) (a .characters .now) (a .minor) (a .count) (c .before .before .before .before .pre),
     )
 
 enum-known-far : tie.Need-enum-known-far
@@ -21,7 +21,7 @@ refused-requires c κs = search needs
 returns : tie.Need-returns
 returns c =
     let a = c .before .before .before .before .before .before .before .before .before .args in
-    far-answer (a .big) (a .directory .now) (a .doubles .now) (a .characters .now) (a .count)
+    far-answer (a .big) (a .directory .now) (a .doubles .now) (a .characters .now) (a .minor) (a .count)
     (c .before .before .before .before .before .before .before .before .before .pre) (c .before .before .before .before .measure .result)
     (c .before .before .before .before .measure .ensures .0) (a .out .now) _ (c .before .before .far .given .1) _ (c .refused .ensures)
 
@@ -49,7 +49,7 @@ refused-requires-2 c κs = search needs
 returns-2 : tie.Need-returns-2
 returns-2 c =
     let a = c .before .before .before .before .before .before .before .before .before .before .before .before .args in
-    short-answer (a .big) (a .directory .now) (a .doubles .now) (a .characters .now) (a .count)
+    short-answer (a .big) (a .directory .now) (a .doubles .now) (a .characters .now) (a .minor) (a .count)
     (c .before .before .before .before .before .before .before .before .before .before .before .before .pre)
     (c .before .before .before .before .before .before .before .measure .result)
     (c .before .before .before .before .before .before .before .measure .ensures .0) (c .before .before .before .before .before .enum-told .given .1)
@@ -58,7 +58,7 @@ returns-2 c =
 put-block-requires : tie.Need-put-block-requires
 put-block-requires c κs =
     let a = c .before .before .before .before .before .before .before .before .before .before .before .before .args in
-    roomy (a .big) (a .directory .now) (a .doubles .now) (a .characters .now) (a .count)
+    roomy (a .big) (a .directory .now) (a .doubles .now) (a .characters .now) (a .minor) (a .count)
     (c .before .before .before .before .before .before .before .before .before .before .before .before .pre)
     (c .before .before .before .before .before .before .before .measure .result)
     (c .before .before .before .before .before .before .before .measure .ensures .0) (c .before .before .before .before .before .enum-told .given .1)
@@ -70,7 +70,7 @@ same-length c = search needs
 returns-3 : tie.Need-returns-3
 returns-3 c =
     let a = c .before .before .before .before .before .before .before .before .before .before .before .before .before .before .before .args in
-    block-answer (a .big) (a .directory .now) (a .doubles .now) (a .characters .now) (a .count)
+    block-answer (a .big) (a .directory .now) (a .doubles .now) (a .characters .now) (a .minor) (a .count)
     (c .before .before .before .before .before .before .before .before .before .before .before .before .before .before .before .pre)
     (c .before .before .before .before .before .before .before .before .before .before .measure .result)
     (c .before .before .before .before .before .before .before .before .before .before .measure .ensures .0)

@@ -8,18 +8,18 @@ use Rattle.keys.proofs.judge_entries.Statement.{statement}
 use Rattle.keys.proofs.judge_entries.Tie as tie
 
 abbrev Inv-loop : tie.InvT-loop
-Inv-loop keys kinds big directory doubles characters count sixteen₀ seventeen₀ next₀ found₀ i₀ sixteen seventeen next found i =
+Inv-loop keys kinds big directory doubles characters count minor sixteen₀ seventeen₀ next₀ found₀ i₀ sixteen seventeen next found i =
     Passing true directory doubles characters count i sixteen seventeen next found
 
 abbrev μ-loop : tie.MeasureT-loop
-μ-loop keys kinds big directory doubles characters count sixteen₀ seventeen₀ next₀ found₀ i₀ sixteen seventeen next found i = i
+μ-loop keys kinds big directory doubles characters count minor sixteen₀ seventeen₀ next₀ found₀ i₀ sixteen seventeen next found i = i
 
 abbrev Inv-loop2 : tie.InvT-loop2
-Inv-loop2 keys kinds big directory doubles characters count sixteen₀ seventeen₀ next₀ found₀ i₀ sixteen seventeen next found i =
+Inv-loop2 keys kinds big directory doubles characters count minor sixteen₀ seventeen₀ next₀ found₀ i₀ sixteen seventeen next found i =
     Passing false directory doubles characters count i sixteen seventeen next found
 
 abbrev μ-loop2 : tie.MeasureT-loop2
-μ-loop2 keys kinds big directory doubles characters count sixteen₀ seventeen₀ next₀ found₀ i₀ sixteen seventeen next found i = i
+μ-loop2 keys kinds big directory doubles characters count minor sixteen₀ seventeen₀ next₀ found₀ i₀ sixteen seventeen next found i = i
 
 loop-holds : tie.Need-loop-holds Inv-loop μ-loop Inv-loop2 μ-loop2
 loop-holds c = search pass-start
@@ -130,8 +130,8 @@ returns : tie.Need-returns Inv-loop μ-loop Inv-loop2 μ-loop2
 returns c =
     let a = c .before .before .before .told .ensures in
     let b = c .before .before .told2 .ensures in
-    ⊎-elim (λ w. pass-end (w .1 .inv) (w .0 .taken) (w .2 .left) (w .3) (w .4) (w .6) a b (c .finish .ensures))
-    (λ w. pass-end (w .1 .inv) (w .0 .left) (w .2 .left) (w .3) (w .4) (w .6) a b (c .finish .ensures)) (c .before .before .before .before .if1 .came)
+    ⊎-elim (λ w. pass-end _ (w .1 .inv) (w .0 .taken) (w .2 .left) (w .3) (w .4) (w .6) a b (c .finish .ensures))
+    (λ w. pass-end _ (w .1 .inv) (w .0 .left) (w .2 .left) (w .3) (w .4) (w .6) a b (c .finish .ensures)) (c .before .before .before .before .if1 .came)
 
 pub judge-entries-spec : {M : Type 1} → statement M
 judge-entries-spec =

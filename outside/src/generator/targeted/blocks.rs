@@ -29,24 +29,28 @@ fn short_directories(cases: &mut Cases) {
         broken(cases, clause, cut, 0);
     }
     broken(cases, clause, [Vec::new(), Vec::new(), Vec::new()], 0);
-    let bare = [vec![1, 0, 1, 0, 0, 0, 0, 0], Vec::new(), Vec::new()];
-    cases.add(clause, false, Call::ReadBlock(bare), Vec::new(), (18, 1024));
+    for minor in [0, 1] {
+        let bare = [vec![1, 0, 1, 0, minor, 0, 0, 0], Vec::new(), Vec::new()];
+        cases.add(clause, false, Call::ReadBlock(bare), Vec::new(), (18, 1024));
+    }
 }
 
 /// Bytes of an element that is not whole are ignored.
 fn left_over_bytes(cases: &mut Cases) {
     let clause = "block 15 count below 4 + 4K";
-    let runs = many_keys().encode().runs();
-    for (run, most) in [(0, 1), (1, 7)] {
-        for more in 1..=most {
-            let mut longer = runs.clone();
-            longer[run].extend(vec![0xFF; more]);
-            kept(cases, clause, longer);
+    for minor in [0, 1] {
+        let runs = many_keys().encode().of_minor(minor).runs();
+        for (run, most) in [(0, 1), (1, 7)] {
+            for more in 1..=most {
+                let mut longer = runs.clone();
+                longer[run].extend(vec![0xFF; more]);
+                kept(cases, clause, longer);
+            }
         }
+        let [mut few, doubles, characters] = few_keys().encode().of_minor(minor).runs();
+        few.pop();
+        broken(cases, clause, [few, doubles, characters], 0);
     }
-    let [mut few, doubles, characters] = few_keys().encode().runs();
-    few.pop();
-    broken(cases, clause, [few, doubles, characters], 0);
 }
 
 /// A run of 1 to 7 bytes holds no double; of 8 to 15 it holds one.

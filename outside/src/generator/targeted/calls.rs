@@ -37,7 +37,7 @@ fn rows(bases: &mut Bases, cases: &mut Cases) {
 
 /// 252 keys of kind other that share one value at a location and fill it to
 /// `start` elements, then key 20000 whose value starts there, then another.
-fn filled(location: u16, start: usize) -> Keys {
+pub fn filled(location: u16, start: usize) -> Keys {
     let before = if location == 34735 { 4 + 4 * 256 } else { 0 };
     let each = (start - before) / 251;
     let rest = (start - before) % 251;

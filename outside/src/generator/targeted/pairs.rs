@@ -12,7 +12,7 @@ use crate::reader::tables::Family;
 type Damage = (&'static str, u32, fn(&mut Laid));
 
 /// One damage for each rule, in their order, on the rich file.
-const DAMAGES: [Damage; 22] = [
+pub const DAMAGES: [Damage; 22] = [
     ("2 neither order", 0, |laid| laid.bytes[0] = 0),
     ("3 not 42", 0, |laid| laid.put_short(2, 43)),
     ("4 odd", 0, |laid| laid.put_long(4, 9)),
@@ -32,7 +32,7 @@ const DAMAGES: [Damage; 22] = [
     ("14 piece on directory", 0, |laid| {
         laid.put_long(laid.places().0.value, laid.directory as u32);
     }),
-    ("15 third number", 0, |laid| laid.put_short(laid.spot(34735).value + 4, 1)),
+    ("15 third number", 0, |laid| laid.put_short(laid.spot(34735).value + 4, 2)),
     ("16 equal key", 60_002, |laid| put_key(laid, 11, 0, 60_002)),
     ("17 ASCII location", 1026, |laid| put_key(laid, 2, 1, 7)),
     ("18 1024 absent", 1024, |laid| put_key(laid, 0, 0, 1023)),

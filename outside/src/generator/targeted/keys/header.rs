@@ -21,14 +21,17 @@ fn replaced(keys: &Encoded, at: usize, number: u16) -> Encoded {
 
 fn first_numbers(bench: &mut KeyBench) {
     let keys = few_keys().encode();
-    let clauses = ["15 first number", "15 second number", "15 third number"];
-    let wrong: [&[u16]; 3] = [&[0, 2, 256, 65_535], &[0, 2, 256, 65_535], &[1, 2, 256, 65_535]];
-    for at in 0..3 {
-        for &number in wrong[at] {
-            bench.broken(clauses[at], &replaced(&keys, at, number), 0);
+    for (at, clause) in ["15 first number", "15 second number"].iter().enumerate() {
+        for number in [0, 2, 256, 65_535] {
+            bench.broken(clause, &replaced(&keys, at, number), 0);
         }
-        bench.kept(clauses[at], &keys);
+        bench.kept(clause, &keys);
     }
+    // 256 is 1 in the other byte order, 257 is 1 by each of its bytes
+    for minors in [[2, 3], [2, 256], [2, 257], [2, 65_535]] {
+        bench.add("15 third number", true, (&keys, &minors), (15, 0));
+    }
+    bench.add("15 third number", false, (&keys, &[1, 0]), (0, 0));
 }
 
 /// So many keys, all beside the needed ones of kind other.

@@ -1,10 +1,8 @@
--- `header` is rule 15: too few bytes for a header, or the test on its four numbers (`Head`).
--- Assumes nothing.
-use mathlib.Core.Bool.{true, false}
-use Rattle.keys.proofs.Head.{short-head, head-test}
+-- `read_header` reads the header: too few bytes for one, or the test on its four numbers (`Head`). Assumes nothing.
+use Rattle.keys.proofs.Head.{short-head, head-wrong, head-right}
 use borrow.Author.Needs.{needs}
-use Rattle.keys.proofs.header.Statement.{statement}
-use Rattle.keys.proofs.header.Tie as tie
+use Rattle.keys.proofs.read_header.Statement.{statement}
+use Rattle.keys.proofs.read_header.Tie as tie
 
 returns : tie.Need-returns
 returns c = search (needs, short-head)
@@ -28,13 +26,16 @@ add-many : tie.Need-add-many
 add-many c = search needs
 
 returns-2 : tie.Need-returns-2
-returns-2 c = search (needs, head-test true)
+returns-2 c = search (needs, head-wrong)
+
+cast-t18 : tie.Need-cast-t18
+cast-t18 c = search needs
 
 returns-3 : tie.Need-returns-3
-returns-3 c = search (needs, head-test false)
+returns-3 c = search (needs, head-right)
 
-pub header-spec : {M : Type 1} → statement M
-header-spec =
+pub read-header-spec : {M : Type 1} → statement M
+read-header-spec =
     tie.close
     (tie.spec
     returns
@@ -45,4 +46,5 @@ header-spec =
     mul-many
     add-many
     returns-2
+    cast-t18
     returns-3)
