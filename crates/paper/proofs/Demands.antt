@@ -155,7 +155,7 @@ module _ (f : List ℕ) (accepts : verdictOf f .number ≡ 0) where
 
 -- STRIPS STAY. C-11 changed nothing for files of strips: one with some strip tag (273, 278, 279) and no tile tag (322 to 325) has the verdict and the place
 -- of `verdictBefore`, the judgement without C-11, which is written out in `Kept`. That has no rule 27, and its rules 9 to 14 go by a table without
--- the tiles' lines and read 273, 278 and 279 alone; every other rule it shares with the verdict, and rules 6 and 10 are as C-12 leaves them. So this
+-- the tiles' lines and read 273, 278 and 279 alone; every other rule it shares with the verdict: rules 6 and 10 as C-12, rule 15 as C-13 leaves it. So this
 -- fixes what C-11 did and no more: where a request moves rule 6, 8 or 15, `verdictBefore` moves with it.
 pub strips-kept : (f : List ℕ) → carries stripTags (entriesIn f (headIn f)) ≡ true → carries tileTags (entriesIn f (headIn f)) ≡ false
     → verdictOf f ≡ verdictBefore f
@@ -172,7 +172,7 @@ strips-needed = needed-before
 
 -- ONE TAG STAYS. C-12 changed nothing for files in which no 50909 stands directly behind another: they have the verdict and the place of `verdictOnce`,
 -- the judgement without C-12, which is written out in `Once`. There each tag is greater than the one before (rule 6), and of each tag the first entry
--- alone is tested by rule 10. Every other rule it shares with the verdict, so that it has C-11's tiles.
+-- alone is tested by rule 10. Every other rule it shares with the verdict, so that it has C-11's tiles and C-13's minor revision.
 pub once-kept : (f : List ℕ) → repeats (entriesIn f (headIn f)) ≡ false → verdictOf f ≡ verdictOnce f
 once-kept = verdict-once
 
@@ -212,6 +212,6 @@ module _ (r s : Runs) (twins : Twins r s) where
   minor-keys = (count-same r s twins, keys-same r s twins)
 
 -- The marked examples are in `Marked` (`marked`, one table), with the whole reading list of a file of each stage (`allowed`); those of tiles are in
--- `Tiled`, those with tag 50909 more than once in `Repeated`, those of minor revision 1 in `Revised`; accepted files of either byte order with their place on the ground in `Placed`; every call
--- on one file in either order, byte for byte, in `FileC`; files with two faults in `Faults`; both sides of the documents' numbers in `Boundaries`,
--- `TagBoundaries` and `KeyBoundaries`; the 45 kinds in `Tables`.
+-- `Tiled`, those with tag 50909 more than once in `Repeated`, those of minor revision 1 in `Revised`; accepted files of either byte order with their place on
+-- the ground in `Placed`; every call on one file in either order, byte for byte, in `FileC`; files with two faults in `Faults`; both sides of the
+-- documents' numbers in `Boundaries`, `TagBoundaries` and `KeyBoundaries`; the 45 kinds in `Tables`.
