@@ -18,7 +18,7 @@ use Rattle.paper.specs.Calls.{noCorners, judgedOf, rowsOf, rowsLeft, cit
 use Rattle.paper.specs.Block.{joined, encs}
 use Rattle.paper.specs.Asked.{onList}
 use Rattle.paper.proofs.Computed.{computed}
-use Rattle.paper.proofs.Spelled.{spelled, table-spelled}
+use Rattle.paper.proofs.Spelled.{spelled, spelled-same, table-spelled}
 use Rattle.paper.specs.declared.Verdict.{Verdict}
 use Rattle.paper.specs.declared.Corners.{Corners}
 use Rattle.paper.specs.declared.Judged.{Judged}
@@ -199,8 +199,8 @@ unfoldable pub row : ℕ → ℕ → ℕ → ℕ → Row
 row k n f l = record { key = k; kind = n; first = f; len = l }
 
 pub rows-A : rowsLeft fileA (replicate 4 (row 7 7 7 7)) ≡ row 1024 0 244 2 ∷ row 1025 0 252 2 ∷ row 3072 0 260 2 ∷ row 7 7 7 7 ∷ []
-unfolding fileA computed row
-rows-A = refl
+unfolding fileA spelled computed row
+rows-A = spelled-same fileA (λ f. rowsLeft f (replicate 4 (row 7 7 7 7)))
 
 -- ---- the reading list
 
@@ -272,8 +272,8 @@ allowed = table-spelled (λ x. x .file) (λ x. allowedOf) (λ x. x .gives) readi
 
 -- of A it is bytes 0 to 261
 pub listed-A : build (λ i. onList i (readingList fileA)) 0 270 ≡ replicate 262 true ++ replicate 8 false
-unfolding fileA computed
-listed-A = refl
+unfolding fileA spelled computed
+listed-A = spelled-same fileA (λ f. build (λ i. onList i (readingList f)) 0 270)
 
 -- ---- errors that tempt
 
@@ -321,14 +321,14 @@ fileB =
     ++ replicate 8 0
 
 pub rows-B : rowsLeft fileB (replicate 5 (row 0 0 0 0)) ≡ row 1024 0 268 2 ∷ row 1025 0 276 2 ∷ row 1026 2 174 3 ∷ row 2057 1 310 8 ∷ row 3072 0 300 2 ∷ []
-unfolding fileB computed row
-rows-B = refl
+unfolding fileB spelled computed row
+rows-B = spelled-same fileB (λ f. rowsLeft f (replicate 5 (row 0 0 0 0)))
 
 pub judged-B : judgedOf fileB .keys ≡ 5
-unfolding fileB computed
-judged-B = refl
+unfolding fileB spelled computed
+judged-B = spelled-same fileB (λ f. judgedOf f .keys)
 
 -- the citation lies in its entry, and has no "|"
 pub cited-B : citedOf fileB 1026 ≡ record { verdict = verdict 0 0; start = 174; len = 2 }
-unfolding fileB computed
-cited-B = refl
+unfolding fileB spelled computed
+cited-B = spelled-same fileB (λ f. citedOf f 1026)

@@ -11,7 +11,7 @@ use lib.Ieee.{Float, binary64}
 use Rattle.paper.specs.Outcome.{verdict}
 use Rattle.paper.specs.Calls.{notJudged, judgedOf, rowsLeft}
 use Rattle.paper.proofs.Computed.{computed}
-use Rattle.paper.proofs.Spelled.{spelled, table-spelled}
+use Rattle.paper.proofs.Spelled.{spelled, spelled-same, table-spelled}
 use Rattle.paper.proofs.Marked.{row}
 use Rattle.paper.proofs.Files.{Field, doubles, laid, front, scale, tiepoint, key, directory, fieldsA, strip}
 use Rattle.paper.specs.declared.Corners.{Corners}
@@ -137,5 +137,5 @@ judged = table-spelled (λ x. x .file) (λ x. judgedOf) (λ x. x .gives) cases r
 
 -- the rows of A are those of the other byte order
 pub rows-big : rowsLeft (laid true fieldsA strip) (replicate 4 (row 7 7 7 7)) ≡ row 1024 0 244 2 ∷ row 1025 0 252 2 ∷ row 3072 0 260 2 ∷ row 7 7 7 7 ∷ []
-unfolding laid fieldsA strip computed row
-rows-big = refl
+unfolding laid fieldsA strip spelled computed row
+rows-big = spelled-same (laid true fieldsA strip) (λ f. rowsLeft f (replicate 4 (row 7 7 7 7)))

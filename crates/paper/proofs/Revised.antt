@@ -19,7 +19,6 @@ use Rattle.paper.proofs.Files.{written}
 use Rattle.paper.proofs.FileC.{fileC, blockC, blockDirectoryC, blockDoublesC, blockCharactersC, reads, Answers, answered, answersC}
 use Rattle.paper.specs.declared.Row.{Row}
 use Rattle.paper.specs.declared.Verdict.{Verdict}
-use Rattle.paper.specs.declared.Judged.{Judged}
 
 -- ---- file C with another minor revision
 
@@ -53,17 +52,14 @@ pub big-revised : answered 12 135 (revised true 1) ≡ answersRevised 1 (row 7 7
 unfolding revised answered answersRevised row spelled computed
 big-revised = spelled-same (revised true 1) (answered 12 135)
 
--- the judgement shows it, and is else that of C, which shows 0
-unfoldable pub withMinor : ℕ → Judged → Judged
-withMinor m j = record { verdict = j .verdict; keys = j .keys; minor = m; georeference = j .georeference; corners = j .corners }
+-- the judgement shows it
+pub little-shown : judgedOf (revised false 1) .minor ≡ 1
+unfolding revised spelled computed
+little-shown = spelled-same (revised false 1) (λ f. judgedOf f .minor)
 
-pub judged-revised : map (λ big. judgedOf (revised big 1)) (false ∷ true ∷ []) ≡ map (λ big. withMinor 1 (judgedOf (fileC big))) (false ∷ true ∷ [])
-unfolding revised fileC withMinor computed
-judged-revised = refl
-
-pub judged-old : map (λ big. judgedOf (fileC big) .minor) (false ∷ true ∷ []) ≡ 0 ∷ 0 ∷ []
-unfolding fileC computed
-judged-old = refl
+pub big-shown : judgedOf (revised true 1) .minor ≡ 1
+unfolding revised spelled computed
+big-shown = spelled-same (revised true 1) (λ f. judgedOf f .minor)
 
 -- read back: 0, 1, 2, 256 and 65535
 pub back-revised : map (λ m. readBack (sets blockDirectoryC 4 (enc 2 m)) blockDoublesC blockCharactersC) (0 ∷ 1 ∷ 2 ∷ 256 ∷ 65535 ∷ [])
@@ -104,15 +100,16 @@ marked = table-spelled (λ x. x .file) (λ x f. (verdictOf f, verdictZero f)) (�
 -- ---- a key whose value is the minor revision
 
 -- key 5000 of C, whose count and index stand at 326, with count 1 and index 2
-unfoldable pub pointed : Bool → List ℕ
+unfoldable pub pointed : List ℕ
 unfolding revised written
-pointed big = sets (revised big 1) 326 (written big 2 1 ++ written big 2 2)
+pointed = sets (revised true 1) 326 (written true 2 1 ++ written true 2 2)
 
--- its row names bytes 270 and 271; in the block 1 is its value, behind the entries, at 96, and 7 that of the next key
-pub own-row : map (λ big. drop 6 (take 7 (rowsLeft (pointed big) (replicate 11 (row 7 7 7 7))))) (false ∷ true ∷ []) ≡ replicate 2 (row 5000 3 270 2 ∷ [])
-unfolding pointed row computed
-own-row = refl
+-- its row names bytes 270 and 271
+pub own-row : drop 6 (take 7 (rowsLeft pointed (replicate 11 (row 7 7 7 7)))) ≡ row 5000 3 270 2 ∷ []
+unfolding pointed row spelled computed
+own-row = spelled-same pointed (λ f. drop 6 (take 7 (rowsLeft f (replicate 11 (row 7 7 7 7)))))
 
-pub own-value : map (λ big. take 4 (drop 96 (blockLeft (pointed big) (replicate 134 5)))) (false ∷ true ∷ []) ≡ replicate 2 (1 ∷ 0 ∷ 7 ∷ 0 ∷ [])
-unfolding pointed computed
-own-value = refl
+-- in the block 1 is its value, behind the entries, at 96, and 7 that of the next key
+pub own-value : take 4 (drop 96 (blockLeft pointed (replicate 134 5))) ≡ 1 ∷ 0 ∷ 7 ∷ 0 ∷ []
+unfolding pointed spelled computed
+own-value = spelled-same pointed (λ f. take 4 (drop 96 (blockLeft f (replicate 134 5))))

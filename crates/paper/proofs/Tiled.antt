@@ -13,7 +13,7 @@ use Rattle.paper.specs.Judge.{verdictOf, readingList}
 use Rattle.paper.specs.Block.{joined}
 use Rattle.paper.specs.Asked.{onList}
 use Rattle.paper.proofs.Computed.{computed}
-use Rattle.paper.proofs.Spelled.{spelled, table-spelled}
+use Rattle.paper.proofs.Spelled.{spelled, spelled-same, table-spelled}
 use Rattle.paper.proofs.Kept.{among, always, before, rule12Before, strips, rulesBefore, verdictBefore, carries, verdict-kept}
 use Rattle.paper.proofs.Marked.{fileA, shorts, longs, entry, head, ground, keys, halves, area, accepted, refused, Example, answered, Reading, reading, allowedOf}
 
@@ -173,15 +173,15 @@ allowed = table-spelled (λ x. x .file) (λ x. allowedOf) (λ x. x .gives) readi
 
 -- of T it is bytes 0 to 273: no byte of the tile
 pub listed-T : build (λ i. onList i (readingList fileT)) 0 282 ≡ replicate 274 true ++ replicate 8 false
-unfolding fileT computed
-listed-T = refl
+unfolding fileT spelled computed
+listed-T = spelled-same fileT (λ f. build (λ i. onList i (readingList f)) 0 282)
 
 -- ---- the judgement without C-11
 
 -- it has no tiles, so that T lacks a needed tag
 pub before-T : verdictBefore fileT ≡ verdict 9 273
-unfolding fileT computed among always before rule12Before strips rulesBefore verdictBefore
-before-T = refl
+unfolding fileT spelled computed among always before rule12Before strips rulesBefore verdictBefore
+before-T = spelled-same fileT verdictBefore
 
 -- A is a file of strips, whose verdict is the same
 pub kept-A : verdictOf fileA ≡ verdictBefore fileA
