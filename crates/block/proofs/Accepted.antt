@@ -18,6 +18,7 @@ use Rattle.paper.specs.declared.Block.{Block}
 use Rattle.paper.specs.declared.Judged.{Judged}
 use Rattle.paper.specs.declared.Verdict.{Verdict}
 use Rattle.paper.proofs.Called.{answer-good, answer-bad, judged-verdict}
+use Rattle.tags.specs.Index
 use Rattle.tags.specs.Slots.{tagAt, lineAt}
 use Rattle.keys.specs.Pass.{runs}
 use Rattle.image.specs.Imaging.{tagPart}
@@ -46,15 +47,15 @@ pub record Ready (f : List ℕ) (e : Examined) : Type 0 where
 module _ (f : List ℕ) (zero : verdictOf f .number ≡ 0) where
   directory : Stands f (view f .held) Tag.keyDirectory
   unfolding tagAt lineAt table
-  directory = stands f zero 17 (lit< tt)
+  directory = stands f zero Index.keyDirectory (lit< tt)
 
   doubles : Stands f (view f .held) Tag.doubles
   unfolding tagAt lineAt table
-  doubles = stands f zero 18 (lit< tt)
+  doubles = stands f zero Index.doubles (lit< tt)
 
   characters : Stands f (view f .held) Tag.characters
   unfolding tagAt lineAt table
-  characters = stands f zero 19 (lit< tt)
+  characters = stands f zero Index.characters (lit< tt)
 
   same : runsBy f (examinedIn (view f)) ≡ runsOf (view f)
   unfolding runsOf examinedIn tagPart

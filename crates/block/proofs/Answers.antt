@@ -13,6 +13,7 @@ use Rattle.paper.specs.Block.{movedKeys, rule24, rule25, blockVerdict, blockIn,
 use Rattle.paper.specs.declared.Block.{Block}
 use Rattle.paper.specs.declared.Outcome.the-variants.{Kept as kept, Broken as broken}
 use Rattle.paper.specs.declared.KeyEntry.{KeyEntry}
+use Rattle.paper.specs.Tag
 use Rattle.keys.specs.Pass.{runs}
 use Rattle.block.specs.Splice.{splice, entriesOf}
 use Rattle.block.specs.Sizes.{total, measured, Sound, Roomy}
@@ -75,7 +76,7 @@ module _ (big : Bool) (d x c : List ℕ) (m k : ℕ) (ok : Sound (runs big d x c
     near-is : rule24 R ≡ kept
     near-is = sym rule24-is ∙ near
 
-    sums : s ≡ record { far = kept; shorts = 4 + 4 * k + total 34735 Es; doubles = 0 + total 34736 Es; characters = 0 + total 34737 Es }
+    sums : s ≡ record { far = kept; shorts = 4 + 4 * k + total Tag.keyDirectory Es; doubles = 0 + total Tag.doubles Es; characters = 0 + total Tag.characters Es }
     sums = is ∙ sums-are (4 + 4 * k) 0 0 Es (sym (ap (λ (z : Sizes). z .far) is) ∙ near)
 
     directory-size : 2 * s .shorts ≡ length (blockDirectory R)

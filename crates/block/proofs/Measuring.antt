@@ -15,6 +15,7 @@ use Rattle.paper.specs.Block.{joined, valuesAt, countAt, newIndex, moved, tooFa
 use Rattle.paper.specs.declared.KeyEntry.{KeyEntry}
 use Rattle.paper.specs.declared.Outcome.{Outcome}
 use Rattle.paper.specs.declared.Outcome.the-variants.{Kept as kept, Broken as broken}
+use Rattle.paper.specs.Tag
 use Rattle.paper.proofs.Laws.{build-step}
 use Rattle.paper.proofs.Codec.{length-values}
 use Rattle.keys.specs.Pass.{runs}
@@ -31,7 +32,7 @@ module _ (a x c : ℕ) (e : KeyEntry) (es : List KeyEntry) where
   cons-far p = rw p
 
   cons-near : not (eqb (e .location) 0) && ltb 65535 (newIndex a x c e) ≡ false
-      → measured a x c (e ∷ es) ≡ measured (a + countAt 34735 e) (x + countAt 34736 e) (c + countAt 34737 e) es
+      → measured a x c (e ∷ es) ≡ measured (a + countAt Tag.keyDirectory e) (x + countAt Tag.doubles e) (c + countAt Tag.characters e) es
   unfolding measured moved firstBad tooFar total
   cons-near p = rw (p, add-assoc, add-assoc, add-assoc)
 
@@ -69,7 +70,7 @@ module _ (directory : List ℕ) (big : Bool) (n : ℕ) where
       pub found-far : far ≡ true → record { far = broken (e .key); shorts = 0; doubles = 0; characters = 0 } ≡ foundAll
       found-far t = sym (opened ∙ cons-far a x c e (build entry (i + 1) (n - (i + 1))) (test ∙ t))
 
-      pub found-turn : far ≡ false → (p q r : ℕ) → p ≡ countAt 34735 e → q ≡ countAt 34736 e → r ≡ countAt 34737 e
+      pub found-turn : far ≡ false → (p q r : ℕ) → p ≡ countAt Tag.keyDirectory e → q ≡ countAt Tag.doubles e → r ≡ countAt Tag.characters e
           → foundFrom (a + p) (x + q) (c + r) (i + 1) ≡ foundAll
       found-turn t p q r is-p is-q is-r =
           (λ j. measured (a + is-p j) (x + is-q j) (c + is-r j) (build entry (i + 1) (n - (i + 1))))
@@ -95,10 +96,10 @@ far-is a x c es = sizes-far (firstBad tooFar (λ e. e .key) (moved a x c es)) _ 
 
 -- the three sums, where it is kept
 pub sums-are : (a x c : ℕ) (es : List KeyEntry) → measured a x c es .far ≡ kept
-    → measured a x c es ≡ record { far = kept; shorts = a + total 34735 es; doubles = x + total 34736 es; characters = c + total 34737 es }
+    → measured a x c es ≡ record { far = kept; shorts = a + total Tag.keyDirectory es; doubles = x + total Tag.doubles es; characters = c + total Tag.characters es }
 unfolding measured
 sums-are a x c es h =
-    ap (λ (o : Outcome). sizes o (a + total 34735 es) (x + total 34736 es) (c + total 34737 es)) (sym (far-is a x c es) ∙ h)
+    ap (λ (o : Outcome). sizes o (a + total Tag.keyDirectory es) (x + total Tag.doubles es) (c + total Tag.characters es)) (sym (far-is a x c es) ∙ h)
 
 -- they count the values
 pub length-joined : (big : Bool) (l w : ℕ) (s : List ℕ) (es : List KeyEntry) → length (joined (valuesAt big l w s) es) ≡ total l es

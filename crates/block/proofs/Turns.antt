@@ -14,6 +14,7 @@ use Rattle.paper.specs.Bytes.{num, enc, build, elems}
 use Rattle.paper.specs.Keys.{keyAt}
 use Rattle.paper.specs.Block.{joined, encs, elements, valuesAt, countAt, newIndex, withIndex, moved, entryNumbers}
 use Rattle.paper.specs.declared.KeyEntry.{KeyEntry}
+use Rattle.paper.specs.Tag
 use Rattle.paper.proofs.Laws.{length-enc, build-step, length-build}
 use Rattle.paper.proofs.Codec.{length-encs, num-drop, length-elems, length-values, length-moved}
 use Rattle.keys.specs.Pass.{runs}
@@ -230,7 +231,7 @@ module _ (directory : List ℕ) (big : Bool) (n : ℕ) where
     now-written = encs 2 (entryNumbers (withIndex (entry-at i) (newIndex a x c (entry-at i))))
 
     abbrev next : List ℕ
-    next = entriesFrom (a + countAt 34735 (entry-at i)) (x + countAt 34736 (entry-at i)) (c + countAt 34737 (entry-at i)) (i + 1)
+    next = entriesFrom (a + countAt Tag.keyDirectory (entry-at i)) (x + countAt Tag.doubles (entry-at i)) (c + countAt Tag.characters (entry-at i)) (i + 1)
 
     cut : i < n → Writing d at all out o (now-written ++ next)
     unfolding moved joined
@@ -252,15 +253,15 @@ module _ (directory : List ℕ) (big : Bool) (n : ℕ) where
 
     pub entries-turn : i < n → (e : KeyEntry) → e ≡ entry-at i → (index : ℕ) → index ≡ newIndex a x c e → (out′ : List ℕ)
         → out′ ≡ splice out o (encs 2 (e .key ∷ e .location ∷ e .count ∷ index ∷ []))
-        → (p q r : ℕ) → p ≡ countAt 34735 e → q ≡ countAt 34736 e → r ≡ countAt 34737 e
+        → (p q r : ℕ) → p ≡ countAt Tag.keyDirectory e → q ≡ countAt Tag.doubles e → r ≡ countAt Tag.characters e
         → Writing d at all out′ (o + 8) (entriesFrom (a + p) (x + q) (c + r) (i + 1))
     unfolding entryNumbers
     entries-turn h e is-e index is-i out′ is-out p q r is-p is-q is-r =
         let w : out′ ≡ splice out o now-written =
         is-out ∙ (λ j. splice out o (encs 2 (is-e j .key ∷ is-e j .location ∷ is-e j .count ∷ (is-i ∙ ap (newIndex a x c) is-e) j ∷ []))) in
-        let p′ : countAt 34735 (entry-at i) ≡ p = sym (is-p ∙ ap (countAt 34735) is-e) in
-        let q′ : countAt 34736 (entry-at i) ≡ q = sym (is-q ∙ ap (countAt 34736) is-e) in
-        let r′ : countAt 34737 (entry-at i) ≡ r = sym (is-r ∙ ap (countAt 34737) is-e) in
+        let p′ : countAt Tag.keyDirectory (entry-at i) ≡ p = sym (is-p ∙ ap (countAt Tag.keyDirectory) is-e) in
+        let q′ : countAt Tag.doubles (entry-at i) ≡ q = sym (is-q ∙ ap (countAt Tag.doubles) is-e) in
+        let r′ : countAt Tag.characters (entry-at i) ≡ r = sym (is-r ∙ ap (countAt Tag.characters) is-e) in
         let t : Writing d at all out′ (o + 8) next = lay d at all out o now-written next (cut h) out′ (o + 8) w (ap (λ (k : ℕ). o + k) (sym eight)) in
         told d at all out′ (o + 8) next _ (λ j. entriesFrom (a + p′ j) (x + q′ j) (c + r′ j) (i + 1)) t
 

@@ -14,6 +14,7 @@ use Rattle.paper.specs.Keys.{Runs, short, minorRevision, keyCount, keyAt, keys,
 use Rattle.paper.specs.Block.{joined, encs, valuesAt, moved, movedKeys, entryNumbers, shortValues, doubleValues, characterValues, directoryNumbers}
 use Rattle.paper.specs.Block.{blockDirectory, blockDoubles, blockCharacters, blockBytes}
 use Rattle.paper.specs.declared.KeyEntry.{KeyEntry}
+use Rattle.paper.specs.Tag
 use Rattle.paper.proofs.Laws.{kept-all, length-build, getD-build}
 use Rattle.paper.proofs.Codec.{length-encs}
 use Rattle.keys.specs.Pass.{runs}
@@ -66,17 +67,17 @@ module _ (big : Bool) (d x c : List ℕ) (m k : ℕ) (ok : Sound (runs big d x c
   located : (l : ℕ) → (l ≡ 0 → ⊥) → (i : ℕ) → i < k → keyAt R i .location ≡ l → keyAt R i .index + keyAt R i .count ≤ roomOf R l
   located l n i h p = subst (λ (y : ℕ). keyAt R i .index + keyAt R i .count ≤ roomOf R y) p (inside i h (λ z. n (sym p ∙ z)))
 
-  shorts-lie : (i : ℕ) → i < k → LiesIn 34735 2 d (keyAt (runs big d [] []) i)
+  shorts-lie : (i : ℕ) → i < k → LiesIn Tag.keyDirectory 2 d (keyAt (runs big d [] []) i)
   unfolding keyAt short roomOf
-  shorts-lie i h p = omega (arith, located 34735 (λ z. omega arith) i h p)
+  shorts-lie i h p = omega (arith, located Tag.keyDirectory (λ z. omega arith) i h p)
 
-  doubles-lie : (i : ℕ) → i < k → LiesIn 34736 8 x (keyAt (runs big d [] []) i)
+  doubles-lie : (i : ℕ) → i < k → LiesIn Tag.doubles 8 x (keyAt (runs big d [] []) i)
   unfolding keyAt short roomOf
-  doubles-lie i h p = omega (arith, located 34736 (λ z. omega arith) i h p)
+  doubles-lie i h p = omega (arith, located Tag.doubles (λ z. omega arith) i h p)
 
-  characters-lie : (i : ℕ) → i < k → LiesIn 34737 1 c (keyAt (runs big d [] []) i)
+  characters-lie : (i : ℕ) → i < k → LiesIn Tag.characters 1 c (keyAt (runs big d [] []) i)
   unfolding keyAt short roomOf
-  characters-lie i h p = omega (arith, located 34737 (λ z. omega arith) i h p)
+  characters-lie i h p = omega (arith, located Tag.characters (λ z. omega arith) i h p)
 
   -- ---- the pieces
 
@@ -87,20 +88,20 @@ module _ (big : Bool) (d x c : List ℕ) (m k : ℕ) (ok : Sound (runs big d x c
   Entries = entryBytes big d k
 
   abbrev pub Shorts : List ℕ
-  Shorts = valueBytes big 2 34735 d d k
+  Shorts = valueBytes big 2 Tag.keyDirectory d d k
 
   abbrev pub Doubles : List ℕ
-  Doubles = valueBytes big 8 34736 x d k
+  Doubles = valueBytes big 8 Tag.doubles x d k
 
   abbrev pub Characters : List ℕ
-  Characters = valueBytes big 1 34737 c d k
+  Characters = valueBytes big 1 Tag.characters c d k
 
   directory-is : blockDirectory R ≡ Header ++ (Entries ++ Shorts)
   unfolding blockDirectory directoryNumbers movedKeys shortValues
   directory-is =
       let es : List KeyEntry = entriesOf big d k in
       let e : List ℕ = joined entryNumbers (moved (4 + 4 * k) 0 0 es) in
-      let s : List ℕ = joined (valuesAt big 34735 2 d) es in
+      let s : List ℕ = joined (valuesAt big Tag.keyDirectory 2 d) es in
       rw (← ok .minor, ← ok .many, ← entries-are) (encs-append 2 (1 ∷ 1 ∷ m ∷ k ∷ []) (e ++ s) ∙ ap (λ (t : List ℕ). Header ++ t) (encs-append 2 e s))
 
   doubles-are : blockDoubles R ≡ Doubles
@@ -127,7 +128,7 @@ module _ (big : Bool) (d x c : List ℕ) (m k : ℕ) (ok : Sound (runs big d x c
   length-values l w s =
       length-encs w (joined (valuesAt big l w s) (entriesOf big d k)) ∙ ap (λ (n : ℕ). w * n) (length-joined big l w s (entriesOf big d k))
 
-  pub length-directory : length (blockDirectory R) ≡ 2 * (4 + 4 * k + total 34735 (entriesOf big d k))
+  pub length-directory : length (blockDirectory R) ≡ 2 * (4 + 4 * k + total Tag.keyDirectory (entriesOf big d k))
   length-directory =
       omega (
         arith,
@@ -136,14 +137,14 @@ module _ (big : Bool) (d x c : List ℕ) (m k : ℕ) (ok : Sound (runs big d x c
         length-append Entries Shorts,
         eight,
         length-entryBytes d big k,
-        length-values 34735 2 d,
+        length-values Tag.keyDirectory 2 d,
       )
 
-  pub length-doubles : length (blockDoubles R) ≡ 8 * total 34736 (entriesOf big d k)
-  length-doubles = ap length doubles-are ∙ length-values 34736 8 x
+  pub length-doubles : length (blockDoubles R) ≡ 8 * total Tag.doubles (entriesOf big d k)
+  length-doubles = ap length doubles-are ∙ length-values Tag.doubles 8 x
 
-  pub length-characters : length (blockCharacters R) ≡ total 34737 (entriesOf big d k)
-  length-characters = omega (arith, ap length characters-are, length-values 34737 1 c)
+  pub length-characters : length (blockCharacters R) ≡ total Tag.characters (entriesOf big d k)
+  length-characters = omega (arith, ap length characters-are, length-values Tag.characters 1 c)
 
   pub length-bytes : length (blockBytes R) ≡ length (blockDirectory R) + length (blockDoubles R) + length (blockCharacters R)
   unfolding blockBytes
@@ -181,7 +182,7 @@ module _ (big : Bool) (d x c : List ℕ) (m k : ℕ) (ok : Sound (runs big d x c
         at-shorts : State o₂ (8 + 8 * k) (Shorts ++ (Doubles ++ Characters))
         at-shorts = lay out 0 (blockBytes R) o₁ 8 Entries _ at-entries o₂ (8 + 8 * k) two (omega (arith, length-entryBytes d big k))
 
-        pub shorts-asked : Values big d d 2 34735 k (8 + 8 * k) (length o₂)
+        pub shorts-asked : Values big d d 2 Tag.keyDirectory k (8 + 8 * k) (length o₂)
         shorts-asked =
             record {
               wide = inr (inl refl);
@@ -195,9 +196,9 @@ module _ (big : Bool) (d x c : List ℕ) (m k : ℕ) (ok : Sound (runs big d x c
           at-doubles : State o₃ dn (Doubles ++ Characters)
           at-doubles =
               lay out 0 (blockBytes R) o₂ (8 + 8 * k) Shorts _ at-shorts o₃ dn three
-              (omega (arith, is-dn, length-directory, length-values 34735 2 d))
+              (omega (arith, is-dn, length-directory, length-values Tag.keyDirectory 2 d))
 
-          pub doubles-asked : Values big d x 8 34736 k dn (length o₃)
+          pub doubles-asked : Values big d x 8 Tag.doubles k dn (length o₃)
           doubles-asked =
               record {
                 wide = inr (inr refl);
@@ -213,7 +214,7 @@ module _ (big : Bool) (d x c : List ℕ) (m k : ℕ) (ok : Sound (runs big d x c
                 lay out 0 (blockBytes R) o₃ dn Doubles Characters at-doubles o₄ (dn + xn) four
                 (ap (λ (n : ℕ). dn + n) (is-xn ∙ ap length doubles-are))
 
-            pub characters-asked : Values big d c 1 34737 k (dn + xn) (length o₄)
+            pub characters-asked : Values big d c 1 Tag.characters k (dn + xn) (length o₄)
             characters-asked =
                 record {
                   wide = inl refl;

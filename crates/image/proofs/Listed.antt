@@ -1,12 +1,16 @@
--- The columns that the pass over a directory leaves, with the entries of 50909 behind the first, are the full reading list: a place shares a byte with
--- one of their parts exactly where it shares one with the list. Where rule 6 is kept, each other tag of the table has one entry. Assumes nothing.
+-- The columns that the pass over a directory leaves for a table's tags, with the entries of 50909 behind the first, the head and the directory, are the
+-- full reading list: a place shares a byte with one of their parts exactly where it shares one with the list. Where rule 6 is kept, each other tag of
+-- the table has one entry. Assumes nothing.
 use Prim.Native.Nat.{ℕ, zero, suc, _+_, _*_, _≤_, _<_, min, max}
 use mathlib.Core.Path.{_≡_, refl, sym, ap, ap₂, _∙_}
-use mathlib.Core.Bool.{Bool, true, false, _&&_, _||_, and-true, and-false, or-true, or-false, or-assoc, or-comm}
+use mathlib.Core.Bool.{Bool, true, false, cond, _&&_, _||_, and-true, and-false, or-true, or-false, or-assoc, or-comm}
 use mathlib.Core.List.{List, [], _∷_, _++_, map}
 use native.Mathlib.Omega.{arith}
 use lib.Dec.{eqb, ltb}
-use lib.ListN.{getD, drop}
+use native.Mathlib.Nat.{add-zero}
+use native.Mathlib.Numerals.{add-one}
+use lib.ListN.{length, getD, drop}
+use lib.Seq.{drop-drop, getD-drop}
 use borrow.Author.Tests.{eqb-true, eqb-false, eq-eqb, ne-eqb, ltb-true, ltb-false, lt-ltb, le-leb}
 use Rattle.paper.specs.Bytes.{num, build}
 use Rattle.paper.specs.Outcome.{first, _▸_}
@@ -14,17 +18,19 @@ use Rattle.paper.specs.declared.Outcome.{Outcome}
 use Rattle.paper.specs.declared.Outcome.the-variants.{Kept as kept}
 use Rattle.paper.specs.Tests.{some, keep}
 use Rattle.paper.specs.Layout.{dirLen, sizeOf, startOf, typed, entries, entryAt, entryOf, behind, rule6}
-use Rattle.paper.specs.Tags.{table, inTable, listed, hold}
+use Rattle.paper.specs.Tags.{Line, inTable, listed, hold}
 use Rattle.paper.specs.Pieces.{part, Piece, shares, fullList, touches, rule13, rule14}
 use Rattle.paper.specs.declared.Part.{Part}
 use Rattle.paper.specs.declared.Entry.{Entry}
 use Rattle.paper.specs.Asked.{noPiece}
+use Rattle.paper.specs.Tag
 use Rattle.paper.proofs.Laws.{first-same}
 use Rattle.paper.proofs.Loops.{listedIs, some-values}
 use Rattle.paper.proofs.Several.{some-keep, rises-behind, no-other}
-use Rattle.layout.specs.Columns.{tags, fieldOf, column, startColumn, lenColumn}
+use Rattle.layout.specs.Columns.{fieldOf, column}
 use Rattle.layout.specs.Repeats.{laterTexts}
 use Rattle.layout.proofs.Values.{untyped-len}
+use Rattle.lines.specs.Lined.{lineTags}
 use Rattle.pieces.specs.Gaps.{partAt, wide, partsOf, placesJudged}
 
 -- the value bytes of the entries of 50909 behind the first
@@ -41,6 +47,15 @@ some-append : {A : Type 0} (is : A → Bool) (xs ys : List A) → some is (xs ++
 unfolding some
 some-append is [] ys = refl
 some-append is (x ∷ xs) ys = ap (λ (b : Bool). is x || b) (some-append is xs ys) ∙ sym (or-assoc (is x) (some is xs) (some is ys))
+
+pub keep-append : {A : Type 0} (is : A → Bool) (xs ys : List A) → keep is (xs ++ ys) ≡ keep is xs ++ keep is ys
+unfolding keep
+keep-append is [] ys = refl
+keep-append {A} is (x ∷ xs) ys = go (is x) (keep-append is xs ys)
+  where
+    go : (b : Bool) → keep is (xs ++ ys) ≡ keep is xs ++ keep is ys → cond b (x ∷ keep is (xs ++ ys)) (keep is (xs ++ ys)) ≡ cond b (x ∷ keep is xs) (keep is xs) ++ keep is ys
+    go true h = ap (λ (l : List A). x ∷ l) h
+    go false h = h
 
 some-map : {A B : Type 0} (is : B → Bool) (g : A → B) (xs : List A) → some is (map g xs) ≡ some (λ x. is (g x)) xs
 unfolding some
@@ -85,16 +100,11 @@ some-either p q false g c i k l h = ap (λ (b : Bool). b || false) (same i k l)
 
 -- ---- the values of the table's tags
 
-in-tags : (x : ℕ) → some (λ t. eqb t x) tags ≡ inTable table x
-unfolding tags table inTable some
-in-tags x = refl
+in-tags : (tb : List Line) (x : ℕ) → some (λ t. eqb t x) (lineTags tb) ≡ inTable tb x
+unfolding lineTags inTable
+in-tags tb x = some-map (λ t. eqb t x) (λ l. l .tag) tb
 
--- 50909 is one of them
-text-in : some (λ t. eqb t 50909) tags ≡ true
-unfolding tags table some
-text-in = refl
-
-module _ (is : Part → Bool) where
+module _ (is : Part → Bool) (tb : List Line) where
   -- the value of tag t, as the columns have it
   abbrev At : List Entry → ℕ → Bool
   At es t = is (part (fieldOf (λ e. e .start) t es) (fieldOf (λ e. e .len) t es))
@@ -116,45 +126,59 @@ module _ (is : Part → Bool) where
       go false q r = rw q r
 
   -- an entry counts for its own tag alone
-  by-tag : (e : Entry) → some (λ t. eqb (e .tag) t && is (valuePart e)) tags ≡ inTable table (e .tag) && is (valuePart e)
+  by-tag : (e : Entry) → some (λ t. eqb (e .tag) t && is (valuePart e)) (lineTags tb) ≡ inTable tb (e .tag) && is (valuePart e)
   by-tag e =
-      some-only (λ t. eqb (e .tag) t && is (valuePart e)) (e .tag) other tags
-      ∙ ap₂ (λ (a b : Bool). a && b) (in-tags (e .tag)) (rw (eq-eqb (e .tag) (e .tag) refl))
+      some-only (λ t. eqb (e .tag) t && is (valuePart e)) (e .tag) other (lineTags tb)
+      ∙ ap₂ (λ (a b : Bool). a && b) (in-tags tb (e .tag)) (rw (eq-eqb (e .tag) (e .tag) refl))
     where
       other : (t : ℕ) → eqb t (e .tag) ≡ false → eqb (e .tag) t && is (valuePart e) ≡ false
       other t n = rw (ne-eqb (e .tag) t (λ z. eqb-false t (e .tag) n (sym z)))
 
   -- so to go through the tags, and for each through the entries, is to go through the entries
-  by-tags : (es : List Entry) → some (Of es) tags ≡ some (λ e. inTable table (e .tag) && is (valuePart e)) es
+  by-tags : (es : List Entry) → some (Of es) (lineTags tb) ≡ some (λ e. inTable tb (e .tag) && is (valuePart e)) es
   unfolding some
-  by-tags [] = nothing tags
+  by-tags [] = nothing (lineTags tb)
     where
       nothing : (ts : List ℕ) → some (λ t. false) ts ≡ false
       nothing [] = refl
       nothing (t ∷ ts) = nothing ts
   by-tags (e ∷ es) =
-      some-or (λ t. eqb (e .tag) t && is (valuePart e)) (Of es) tags
+      some-or (λ t. eqb (e .tag) t && is (valuePart e)) (Of es) (lineTags tb)
       ∙ ap₂ (λ (a b : Bool). a || b) (by-tag e) (by-tags es)
 
   -- the columns have them all but those of 50909 behind the first
   values-are : is (part 0 0) ≡ false → (es : List Entry) → rule6 es ≡ kept
-      → some (At es) tags || some (λ e. is (valuePart e)) (laterTexts es) ≡ some (λ e. inTable table (e .tag) && is (valuePart e)) es
+      → some (At es) (lineTags tb) || (inTable tb Tag.metadata && some (λ e. is (valuePart e)) (laterTexts es)) ≡ some (λ e. inTable tb (e .tag) && is (valuePart e)) es
   unfolding rule6 some
   values-are none es h =
-      sym (ap (λ (b : Bool). some (At es) tags || b) (some-only (Later es) 50909 once tags ∙ rw text-in))
-      ∙ sym (some-or (At es) (Later es) tags)
-      ∙ (λ i. some (λ t. sym (first-or-later none t es) i) tags)
+      sym (ap (λ (b : Bool). some (At es) (lineTags tb) || b)
+      (some-only (Later es) Tag.metadata once (lineTags tb) ∙ ap (λ (b : Bool). b && some (λ e. is (valuePart e)) (laterTexts es)) (in-tags tb Tag.metadata)))
+      ∙ sym (some-or (At es) (Later es) (lineTags tb))
+      ∙ (λ i. some (λ t. sym (first-or-later none t es) i) (lineTags tb))
       ∙ by-tags es
     where
-      once : (t : ℕ) → eqb t 50909 ≡ false → Later es t ≡ false
+      once : (t : ℕ) → eqb t Tag.metadata ≡ false → Later es t ≡ false
       once t n = rw (no-other (λ e. e .tag) behind t (rises-behind t n) es h)
 
--- ---- the parts of the columns, in order: the table's tags, the head, the directory
+-- ---- the parts of the columns, in order
 
-built-are : (is : Part → Bool) (at c : ℕ) (es : List Entry)
-    → some is (build (partAt (startColumn at es) (lenColumn c es)) 0 23) ≡ some (At is es) tags || (is (part 0 8) || is (part at (dirLen c)))
-unfolding partAt build startColumn lenColumn column tags table some
-built-are is at c es = simp (or-false, or-assoc)
+-- a part for each tag
+built-from : (ts : List ℕ) (es : List Entry) (xs ys : List ℕ) (i : ℕ) → drop i xs ≡ column (λ e. e .start) ts es → drop i ys ≡ column (λ e. e .len) ts es
+    → build (partAt xs ys) i (length ts) ≡ map (λ t. part (fieldOf (λ e. e .start) t es) (fieldOf (λ e. e .len) t es)) ts
+unfolding build column partAt
+built-from [] es xs ys i p q = refl
+built-from (t ∷ ts) es xs ys i p q =
+    ap₂ (λ (x : Part) (rest : List Part). x ∷ rest) (ap₂ part (here xs i p) (here ys i q)) (built-from ts es xs ys (suc i) (next xs i p) (next ys i q))
+  where
+    here : (zs : List ℕ) (i : ℕ) {z : ℕ} {rest : List ℕ} → drop i zs ≡ z ∷ rest → getD zs i 0 ≡ z
+    here zs i e = sym (ap (λ (k : ℕ). getD zs k 0) (add-zero i)) ∙ sym (getD-drop i zs 0 0) ∙ ap (λ (l : List ℕ). getD l 0 0) e
+
+    next : (zs : List ℕ) (i : ℕ) {z : ℕ} {rest : List ℕ} → drop i zs ≡ z ∷ rest → drop (suc i) zs ≡ rest
+    next zs i e = sym (ap (λ (k : ℕ). drop k zs) (add-one i)) ∙ sym (drop-drop 1 i zs) ∙ ap (drop 1) e
+
+built-are : (is : Part → Bool) (tb : List Line) (es : List Entry)
+    → some is (build (partAt (column (λ e. e .start) (lineTags tb) es) (column (λ e. e .len) (lineTags tb) es)) 0 (length (lineTags tb))) ≡ some (At is tb es) (lineTags tb)
+built-are is tb es = ap (some is) (built-from (lineTags tb) es _ _ 0 refl refl) ∙ some-map is _ (lineTags tb)
 
 -- ---- a value of at most 4 bytes stands in its entry, and so in the directory
 
@@ -178,17 +202,17 @@ unfolding entryOf startOf
 near-start big at dir p h = rw (le-leb (sizeOf (num big 2 dir (p + 2)) * num big 4 dir (p + 4)) 4 h)
 
 -- so beside the directory only the longer values of the table's tags count; an entry of another type has no value bytes
-entry-same : (a : Part) (big : Bool) (at c : ℕ) (dir : List ℕ) (j : ℕ) → j < c
-    → (inTable table (entryAt big at dir j .tag) && (wide (valuePart (entryAt big at dir j)) && shares a (valuePart (entryAt big at dir j)))) || shares a (part at (dirLen c))
-    ≡ listedIs table (shares a) (entryAt big at dir j) || shares a (part at (dirLen c))
+entry-same : (tb : List Line) (a : Part) (big : Bool) (at c : ℕ) (dir : List ℕ) (j : ℕ) → j < c
+    → (inTable tb (entryAt big at dir j .tag) && (wide (valuePart (entryAt big at dir j)) && shares a (valuePart (entryAt big at dir j)))) || shares a (part at (dirLen c))
+    ≡ listedIs tb (shares a) (entryAt big at dir j) || shares a (part at (dirLen c))
 unfolding wide listed
-entry-same a big at c dir j l = go (ltb 4 (E .len)) refl (typed E) refl
+entry-same tb a big at c dir j l = go (ltb 4 (E .len)) refl (typed E) refl
   where
     E : Entry
     E = entryAt big at dir j
 
     In : Bool
-    In = inTable table (E .tag)
+    In = inTable tb (E .tag)
 
     Meets : Bool
     Meets = shares a (valuePart E)
@@ -214,13 +238,20 @@ entry-same a big at c dir j l = go (ltb 4 (E .len)) refl (typed E) refl
 
 -- ---- the whole list
 
-module _ (f : List ℕ) (big : Bool) (at c : ℕ) (dir : List ℕ) (kept6 : rule6 (entries big at c dir) ≡ kept) where
+module _ (tb : List Line) (text : inTable tb Tag.metadata ≡ true) (f : List ℕ) (big : Bool) (at c : ℕ) (dir : List ℕ) (kept6 : rule6 (entries big at c dir) ≡ kept) where
   abbrev Es : List Entry
   Es = entries big at c dir
 
-  -- the longer values of 50909 behind the first, and the parts of the columns
+  -- the parts of the columns, and those of the head and of the directory
+  abbrev Own : List Part
+  Own = partsOf (column (λ e. e .start) (lineTags tb) Es) (column (λ e. e .len) (lineTags tb) Es) (length (lineTags tb))
+
+  abbrev Ends : List Part
+  Ends = keep wide (part 0 8 ∷ part at (dirLen c) ∷ [])
+
+  -- in front of them the longer values of 50909 behind the first
   abbrev Parts : List Part
-  Parts = keep wide (laterParts Es) ++ partsOf (startColumn at Es) (lenColumn c Es) 23
+  Parts = keep wide (laterParts Es) ++ (Own ++ Ends)
 
   module _ (a : Part) where
     -- one of more than 4 bytes that shares a byte with a
@@ -228,7 +259,7 @@ module _ (f : List ℕ) (big : Bool) (at c : ℕ) (dir : List ℕ) (kept6 : rule
     far p = wide p && shares a p
 
     abbrev Firsts : Bool
-    Firsts = some (At far Es) tags
+    Firsts = some (At far tb Es) (lineTags tb)
 
     abbrev Laters : Bool
     Laters = some (λ e. far (valuePart e)) (laterTexts Es)
@@ -246,18 +277,24 @@ module _ (f : List ℕ) (big : Bool) (at c : ℕ) (dir : List ℕ) (kept6 : rule
     unfolding laterParts
     later-are = some-keep wide (shares a) (laterParts Es) ∙ some-map far (λ e. part (e .start) (e .len)) (laterTexts Es)
 
-    first-are : some (shares a) (partsOf (startColumn at Es) (lenColumn c Es) 23) ≡ Firsts || (Head || Dir)
-    unfolding partsOf wide
-    first-are =
-        some-keep wide (shares a) (build (partAt (startColumn at Es) (lenColumn c Es)) 0 23)
-        ∙ built-are far at c Es
-        ∙ ap (λ (b : Bool). Firsts || (Head || (b && Dir))) (lt-ltb 4 (dirLen c) (omega arith))
+    own-are : some (shares a) Own ≡ Firsts
+    unfolding partsOf
+    own-are =
+        some-keep wide (shares a) (build (partAt (column (λ e. e .start) (lineTags tb) Es) (column (λ e. e .len) (lineTags tb) Es)) 0 (length (lineTags tb)))
+        ∙ built-are far tb Es
+
+    ends-are : some (shares a) Ends ≡ Head || Dir
+    unfolding some wide
+    ends-are =
+        some-keep wide (shares a) (part 0 8 ∷ part at (dirLen c) ∷ [])
+        ∙ ap (λ (b : Bool). Head || ((b && Dir) || false)) (lt-ltb 4 (dirLen c) (omega arith))
+        ∙ ap (λ (b : Bool). Head || b) (or-false Dir)
 
     -- beside the directory, the longer values are all
-    values-same : some (λ e. inTable table (e .tag) && far (valuePart e)) Es || Dir ≡ some (listedIs table (shares a)) Es || Dir
+    values-same : some (λ e. inTable tb (e .tag) && far (valuePart e)) Es || Dir ≡ some (listedIs tb (shares a)) Es || Dir
     unfolding entries
     values-same =
-        some-either (λ e. inTable table (e .tag) && far (valuePart e)) (listedIs table (shares a)) Dir (entryAt big at dir) c 0 c (omega arith) (entry-same a big at c dir)
+        some-either (λ e. inTable tb (e .tag) && far (valuePart e)) (listedIs tb (shares a)) Dir (entryAt big at dir) c 0 c (omega arith) (entry-same tb a big at c dir)
 
     regroup : (l v h k d w x : Bool) → v || l ≡ w → w || d ≡ x || d → k || d ≡ d → l || (v || (h || d)) ≡ h || (k || (d || x))
     regroup l v h k true w x p q r = rw (or-true h, or-true v, or-true l, or-true k, or-true h)
@@ -267,18 +304,19 @@ module _ (f : List ℕ) (big : Bool) (at c : ℕ) (dir : List ℕ) (kept6 : rule
         rw (z, or-false v) (or-comm l v ∙ p ∙ sym (or-false w) ∙ q ∙ or-false x)
 
     -- a place shares a byte with them exactly where it shares one with the full reading list
-    pub columns-list : some (shares a) Parts ≡ some (shares a) (fullList table at c (map (hold table f) Es))
+    pub columns-list : some (shares a) Parts ≡ some (shares a) (fullList tb at c (map (hold tb f) Es))
     unfolding fullList some wide
     columns-list =
-        some-append (shares a) (keep wide (laterParts Es)) (partsOf (startColumn at Es) (lenColumn c Es) 23)
-        ∙ ap₂ (λ (l v : Bool). l || v) later-are first-are
-        ∙ regroup Laters Firsts Head Count Dir _ _ (values-are far refl Es kept6) values-same (within a at 2 at (dirLen c) (omega arith) (omega arith))
-        ∙ ap (λ (v : Bool). Head || (Count || (Dir || v))) (sym (some-values table (shares a) f Es))
+        some-append (shares a) (keep wide (laterParts Es)) (Own ++ Ends)
+        ∙ ap₂ (λ (l v : Bool). l || v) later-are (some-append (shares a) Own Ends ∙ ap₂ (λ (o e : Bool). o || e) own-are ends-are)
+        ∙ regroup Laters Firsts Head Count Dir _ _ (sym (ap (λ (b : Bool). Firsts || (b && Laters)) text) ∙ values-are far tb refl Es kept6) values-same
+        (within a at 2 at (dirLen c) (omega arith) (omega arith))
+        ∙ ap (λ (v : Bool). Head || (Count || (Dir || v))) (sym (some-values tb (shares a) f Es))
 
   -- so rules 13 and 14 over them are those over the list
   pub columns-judged : (n : ℕ) (ss : List Piece)
-      → placesJudged n Parts ss ≡ first (13 ▸ rule13 n ss ∷ 14 ▸ rule14 (fullList table at c (map (hold table f) Es)) ss ∷ [])
+      → placesJudged n Parts ss ≡ first (13 ▸ rule13 n ss ∷ 14 ▸ rule14 (fullList tb at c (map (hold tb f) Es)) ss ∷ [])
   unfolding placesJudged rule14 touches
   columns-judged n ss =
       ap (λ (o : Outcome). first (13 ▸ rule13 n ss ∷ 14 ▸ o ∷ []))
-      (first-same (touches Parts) (touches (fullList table at c (map (hold table f) Es))) (λ s. s .index) ss noPiece (λ i l. columns-list (getD ss i noPiece .place)))
+      (first-same (touches Parts) (touches (fullList tb at c (map (hold tb f) Es))) (λ s. s .index) ss noPiece (λ i l. columns-list (getD ss i noPiece .place)))

@@ -3,15 +3,19 @@
 ghost use mathlib.Core.Path.{_≡_};
 ghost use Prim.Native.Nat.{_<_};
 ghost use lib.ListN.{getD};
+ghost use Rattle.paper.specs.Tags.{table};
 ghost use Rattle.paper.specs.Judge.{pictureStage};
-ghost use Rattle.layout.specs.Opening.{headedOf};
+ghost use Rattle.layout.specs.Opening.{headedOf, LaidAt};
 ghost use Rattle.layout.specs.declared.Headed.the-variants.{Good};
+ghost use Rattle.tags.specs.Index.{many};
 ghost use Rattle.tags.specs.Tagging.{viewOf};
 ghost use Rattle.image.specs.Imaging.{noImage, imageBy, imageOf};
-ghost use Rattle.image.specs.Stages.{Opening, Passed, Fits, piecesJudged, outerOf};
+ghost use Rattle.image.specs.Stages.{Passed, Fits, piecesJudged, outerOf};
 use layout::Further;
 use paper::Part;
 use paper::Verdict;
+use tags::table;
+use tags::table::SLOTS;
 
 // What rules 1 to 14 and 27 find of a file: their verdict, the byte order, the picture's width and length, the next offset, and where the values stand
 // that the survey and the other calls ask for. With a broken rule all but the verdict is 0, false or empty.
@@ -54,8 +58,8 @@ fn no_image(verdict: Verdict) -> Image
 }
 
 // The part of slot k of the columns.
-fn part_at(starts: &[usize; 23], lens: &[usize; 23], k: usize) -> Part
-    requires { ⌜ k < 23 ⌝ }
+fn part_at(starts: &[usize; SLOTS], lens: &[usize; SLOTS], k: usize) -> Part
+    requires { ⌜ k < many ⌝ }
     ensures { λ r. ⌜ r ≡ record { start = getD (now (starts .entry)) k 0; len = getD (now (lens .entry)) k 0 } ⌝ }
 {
     Part {
@@ -64,62 +68,72 @@ fn part_at(starts: &[usize; 23], lens: &[usize; 23], k: usize) -> Part
     }
 }
 
-// The numbers of a column whose parts may lie outside their entries, where the pieces have slots a and b: the tags with one SHORT or LONG are left out,
-// and the slots of the family that is absent.
-fn outer(column: &[usize; 23], a: usize, b: usize) -> [usize; 12]
-    requires { ⌜ (a < 23) × (b < 23) ⌝ }
-    ensures { λ r. ⌜ r ≡ outerOf (now (column .entry)) a b ⌝ }
+// How many parts of the reading list may lie outside the entries: 258, the two tags of the pieces, seven of the survey, the head and the directory.
+const OUTER: usize = 12;
+
+// The numbers of a column for these parts, where the pieces have slots a and b, with those of the head and of the directory: the tags with one SHORT or
+// LONG are left out, and the slots of the family that is absent.
+fn outer(
+    column: &[usize; SLOTS],
+    a: usize,
+    b: usize,
+    head: usize,
+    directory: usize,
+) -> [usize; OUTER]
+    requires { ⌜ (a < many) × (b < many) ⌝ }
+    ensures { λ r. ⌜ r ≡ outerOf (now (column .entry)) a b head directory ⌝ }
 {
     [
-        column[2],
+        column[table::BITS],
         column[a],
         column[b],
-        column[14],
-        column[15],
-        column[16],
-        column[17],
-        column[18],
-        column[19],
-        column[20],
-        column[21],
-        column[22],
+        column[table::SCALE],
+        column[table::TIEPOINT],
+        column[table::MATRIX],
+        column[table::KEY_DIRECTORY],
+        column[table::DOUBLES],
+        column[table::CHARACTERS],
+        column[table::METADATA],
+        head,
+        directory,
     ]
 }
 
-// Rules 13 and 14, over the runs of the pieces' offsets and byte counts. The reading list is that of the columns and of the further entries of 50909.
+// Rules 13 and 14, over the runs of the pieces' offsets and byte counts. The reading list is the head, the directory, and what the columns and the
+// further entries of 50909 say.
 fn judge_pieces(
     file: &[u8],
     big: bool,
     at: usize,
     c: usize,
     tiled: bool,
-    typs: &[usize; 21],
-    counts: &[usize; 21],
-    starts: &[usize; 23],
-    lens: &[usize; 23],
+    typs: &[u32; SLOTS],
+    counts: &[u32; SLOTS],
+    starts: &[usize; SLOTS],
+    lens: &[usize; SLOTS],
     further: Further,
 ) -> Verdict
     requires { ⌜ Fits (now file) big at c tiled (now typs) (now counts) (now starts) (now lens) further ⌝ }
-    ensures { λ r. ⌜ r ≡ piecesJudged (viewOf (now (file .entry)) big at c) ⌝ }
+    ensures { λ r. ⌜ r ≡ piecesJudged (viewOf table (now (file .entry)) big at c) ⌝ }
 {
     let a = tags::offsets_slot(tiled);
     let b = tags::byte_counts_slot(tiled);
     let offsets = layout::value(file, starts[a], lens[a]);
     let bytecounts = layout::value(file, starts[b], lens[b]);
-    let outerstarts = outer(starts, a, b);
-    let outerlens = outer(lens, a, b);
+    let outerstarts = outer(starts, a, b, 0, at);
+    let outerlens = outer(lens, a, b, 8, 2 + 12 * c + 4);
     let later = layout::value(file, further.start, 12 * further.many);
     pieces::judge_places(
         offsets,
-        typs[a] == 4,
+        typs[a] == lines::LONG,
         bytecounts,
-        typs[b] == 4,
+        typs[b] == lines::LONG,
         big,
-        counts[a],
+        lines::counted(counts[a]),
         file.len(),
         &outerstarts,
         &outerlens,
-        12,
+        OUTER,
         later,
         further.many,
     )
@@ -132,14 +146,14 @@ fn image_columns(
     at: usize,
     c: usize,
     next: u32,
-    typs: &[usize; 21],
-    counts: &[usize; 21],
-    starts: &[usize; 23],
-    lens: &[usize; 23],
+    typs: &[u32; SLOTS],
+    counts: &[u32; SLOTS],
+    starts: &[usize; SLOTS],
+    lens: &[usize; SLOTS],
     further: Further,
 ) -> Image
     requires { ⌜ Passed (now file) big at c (now typs) (now counts) (now starts) (now lens) further ⌝ }
-    ensures { λ r. ⌜ r ≡ imageBy (pictureStage (viewOf (now (file .entry)) big at c)) (viewOf (now (file .entry)) big at c) next ⌝ }
+    ensures { λ r. ⌜ r ≡ imageBy (pictureStage (viewOf table (now (file .entry)) big at c)) (viewOf table (now (file .entry)) big at c) next ⌝ }
 {
     let t = tags::judge_tags(file, big, at, c, typs, counts, starts, lens, further);
     if t.verdict.number != 0 {
@@ -169,35 +183,33 @@ fn image_columns(
         width: t.width,
         length: t.length,
         next,
-        directory: part_at(starts, lens, 17),
-        doubles: part_at(starts, lens, 18),
-        characters: part_at(starts, lens, 19),
-        scale: part_at(starts, lens, 14),
-        tiepoint: part_at(starts, lens, 15),
-        matrix: part_at(starts, lens, 16),
-        metadata: part_at(starts, lens, 20),
+        directory: part_at(starts, lens, table::KEY_DIRECTORY),
+        doubles: part_at(starts, lens, table::DOUBLES),
+        characters: part_at(starts, lens, table::CHARACTERS),
+        scale: part_at(starts, lens, table::SCALE),
+        tiepoint: part_at(starts, lens, table::TIEPOINT),
+        matrix: part_at(starts, lens, table::MATRIX),
+        metadata: part_at(starts, lens, table::METADATA),
         further,
     }
 }
 
 // Rules 6 to 14 and 27, of a file whose directory of c entries is laid at a place.
 fn image_laid(file: &[u8], big: bool, at: usize, c: usize) -> Image
-    requires { ⌜ Opening (now file) big at c ⌝ }
+    requires { ⌜ LaidAt (now file) big at c ⌝ }
     ensures { λ r. ⌜ r ≡ imageOf (now (file .entry)) ⌝ }
 {
     let n = file.len();
     let len = 2 + 12 * c + 4;
     let end = at + len;
-    let mut typs = [0usize; 21];
-    let mut counts = [0usize; 21];
-    let mut starts = [0usize; 23];
-    let mut lens = [0usize; 23];
-    starts[22] = at;
-    lens[21] = 8;
-    lens[22] = len;
+    let mut typs = [0u32; SLOTS];
+    let mut counts = [0u32; SLOTS];
+    let mut starts = [0usize; SLOTS];
+    let mut lens = [0usize; SLOTS];
     let s = layout::scan(
-        &layout::CELLS,
-        &layout::SLOTS,
+        &table::CELLS,
+        &table::CELL_SLOTS,
+        table::FACTOR,
         &file[at..end],
         big,
         at,

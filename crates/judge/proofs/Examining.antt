@@ -17,6 +17,7 @@ use Rattle.paper.proofs.First.{chain-zero, chain-stop}
 use Rattle.paper.proofs.Called.{answer-good, answer-bad}
 use Rattle.paper.specs.declared.Judged.{Judged}
 use Rattle.paper.specs.declared.Verdict.{Verdict}
+use Rattle.tags.specs.Index
 use Rattle.tags.specs.Slots.{lineAt, tagAt}
 use Rattle.keys.specs.Pass.{runs}
 use Rattle.ground.specs.Answer.{Sized}
@@ -76,7 +77,7 @@ module _ (f : List ℕ) {i : Image} (is : i ≡ imageOf f) where
     here : i ≡ imageIn (view f) (nextIn f (headIn f))
     here = image-found image-zero
 
-    names : (p : Part) (k : ℕ) → k < 21 → p ≡ tagPart (tagAt k) (view f .held) → Names f p (bytesOf (tagAt k) (view f .held))
+    names : (p : Part) (k : ℕ) → k < Index.many → p ≡ tagPart (tagAt k) (view f .held) → Names f p (bytesOf (tagAt k) (view f .held))
     unfolding tagPart
     names p k h e =
         let s : Stands f (view f .held) (tagAt k) = image-stands f image-zero k h in
@@ -84,27 +85,27 @@ module _ (f : List ℕ) {i : Image} (is : i ≡ imageOf f) where
 
     pub directory-named : Names f (i .directory) (bytesOf Tag.keyDirectory (view f .held))
     unfolding imageIn tagAt lineAt table
-    directory-named = names (i .directory) 17 (lit< tt) (ap (λ (x : Image). x .directory) here)
+    directory-named = names (i .directory) Index.keyDirectory (lit< tt) (ap (λ (x : Image). x .directory) here)
 
     pub doubles-named : Names f (i .doubles) (bytesOf Tag.doubles (view f .held))
     unfolding imageIn tagAt lineAt table
-    doubles-named = names (i .doubles) 18 (lit< tt) (ap (λ (x : Image). x .doubles) here)
+    doubles-named = names (i .doubles) Index.doubles (lit< tt) (ap (λ (x : Image). x .doubles) here)
 
     pub characters-named : Names f (i .characters) (bytesOf Tag.characters (view f .held))
     unfolding imageIn tagAt lineAt table
-    characters-named = names (i .characters) 19 (lit< tt) (ap (λ (x : Image). x .characters) here)
+    characters-named = names (i .characters) Index.characters (lit< tt) (ap (λ (x : Image). x .characters) here)
 
     pub scale-named : Names f (i .scale) (bytesOf Tag.scale (view f .held))
     unfolding imageIn tagAt lineAt table
-    scale-named = names (i .scale) 14 (lit< tt) (ap (λ (x : Image). x .scale) here)
+    scale-named = names (i .scale) Index.scale (lit< tt) (ap (λ (x : Image). x .scale) here)
 
     pub tiepoint-named : Names f (i .tiepoint) (bytesOf Tag.tiepoint (view f .held))
     unfolding imageIn tagAt lineAt table
-    tiepoint-named = names (i .tiepoint) 15 (lit< tt) (ap (λ (x : Image). x .tiepoint) here)
+    tiepoint-named = names (i .tiepoint) Index.tiepoint (lit< tt) (ap (λ (x : Image). x .tiepoint) here)
 
     pub matrix-named : Names f (i .matrix) (bytesOf Tag.matrix (view f .held))
     unfolding imageIn tagAt lineAt table
-    matrix-named = names (i .matrix) 16 (lit< tt) (ap (λ (x : Image). x .matrix) here)
+    matrix-named = names (i .matrix) Index.matrix (lit< tt) (ap (λ (x : Image). x .matrix) here)
 
     -- the runs that the survey is handed
     module _ {directory doubles characters scale tiepoint matrix : List ℕ}

@@ -11,7 +11,7 @@ use Rattle.paper.specs.Bytes.{run}
 use Rattle.paper.specs.Tests.{all}
 use Rattle.paper.specs.Outcome.{_▷_}
 use Rattle.paper.specs.Layout.{rule6}
-use Rattle.paper.specs.Tags.{Held, find, has, bytesOf}
+use Rattle.paper.specs.Tags.{table, Held, find, has, bytesOf}
 use Rattle.paper.specs.Judge.{view, viewAt, headRun, headOf, headIn, countIn, dirRun, entriesIn, fullOf, verdictOf}
 use Rattle.paper.specs.Judge.{headRules, offsetRules, countRules, entryRules, tableRules, pieceRules, pictureRules}
 use Rattle.paper.specs.Judge.{headStage, offsetStage, countStage, entryStage, directoryStage, nextStage, pictureStage, surveyStage, imageStage}
@@ -23,13 +23,17 @@ use Rattle.paper.specs.declared.Outcome.the-variants.{Kept as kept}
 use Rattle.paper.specs.declared.Entry.{Entry}
 use Rattle.paper.specs.declared.Judged.{Judged}
 use Rattle.paper.specs.declared.Verdict.{Verdict}
-use Rattle.layout.specs.Columns.{typColumn, countColumn, startColumn, lenColumn}
+use Rattle.paper.specs.Tag
+use Rattle.layout.specs.Columns.{column}
 use Rattle.layout.specs.Repeats.{textCount, furtherOf, laterTexts}
 use Rattle.layout.proofs.Opening.{size-gives}
 use Rattle.layout.proofs.Repeats.{FurtherHolds, further-holds, later-within}
+use Rattle.tags.specs.Index
 use Rattle.tags.specs.Slots.{tagAt}
-use Rattle.tags.specs.Tagging.{entriesAt, heldAt, viewOf, taggedBy, taggedOf, Ready}
-use Rattle.tags.proofs.Slots.{slot}
+use Rattle.lines.specs.Lined.{lineTags}
+use Rattle.lines.specs.Ready.{entriesAt, heldAt, Ready}
+use Rattle.tags.specs.Tagging.{viewOf, taggedBy, taggedOf}
+use Rattle.tags.proofs.Slots.{slot-at}
 use Rattle.tags.proofs.Accepted.{view-is, Accepted, accepted as tags-accepted, FixedColumn}
 use Rattle.ground.specs.Answer.{Holds, Sized}
 use Rattle.judge.specs.Examining.{examinedIn, notExamined, examinedOf}
@@ -69,10 +73,13 @@ module _ (f : List ℕ) (zero : imageStage f .number ≡ 0) where
   Entries = entriesAt f (headIn f .big) (headIn f .at) (countIn f (headIn f))
 
   abbrev Helds : List Held
-  Helds = heldAt f (headIn f .big) (headIn f .at) (countIn f (headIn f))
+  Helds = heldAt table f (headIn f .big) (headIn f .at) (countIn f (headIn f))
 
-  ready : Ready f (headIn f .big) (headIn f .at) (countIn f (headIn f)) (typColumn Entries) (countColumn Entries) (startColumn (headIn f .at) Entries)
-      (lenColumn (countIn f (headIn f)) Entries)
+  -- the columns of its tags
+  abbrev Column : (Entry → ℕ) → List ℕ
+  Column field = column field (lineTags table) Entries
+
+  ready : Ready table f (headIn f .big) (headIn f .at) (countIn f (headIn f)) (Column (λ e. e .typ)) (Column (λ e. e .count)) (Column (λ e. e .start)) (Column (λ e. e .len))
   unfolding offsetStage offsetRules countStage countRules entryStage entryRules headIn headOf entriesIn dirRun entriesAt all
   ready =
       let four = rule4-gives (length f) (headIn f .at) (kept-first (offsetRules (headIn f)) refl (offset-zero .0) 0) in
@@ -84,10 +91,7 @@ module _ (f : List ℕ) (zero : imageStage f .number ≡ 0) where
         some = five .some;
         few = five .few;
         whole = five .whole;
-        typs-are = refl;
-        counts-are = refl;
-        starts-are = refl;
-        lens-are = refl;
+        columns = record { typs-are = refl; counts-are = refl; starts-are = refl; lens-are = refl };
         seven = kept-first (entryRules (headIn f) (entriesIn f (headIn f))) refl (count-zero .1) 1;
       }
 
@@ -109,7 +113,7 @@ module _ (f : List ℕ) (zero : imageStage f .number ≡ 0) where
   unfolding view viewAt entriesIn dirRun heldAt entriesAt
   held-is = refl
 
-  view-seen : view f ≡ viewOf f (headIn f .big) (headIn f .at) (countIn f (headIn f))
+  view-seen : view f ≡ viewOf table f (headIn f .big) (headIn f .at) (countIn f (headIn f))
   unfolding view headIn headOf
   view-seen = sym (view-is f (headIn f .big) (headIn f .at) (countIn f (headIn f)) refl)
 
@@ -119,25 +123,24 @@ module _ (f : List ℕ) (zero : imageStage f .number ≡ 0) where
       chain-both (taggedOf (view f) .verdict) _
       (ap (λ (v : Verdict). v .number) (sym (first-append (tableRules (view f)) (pieceRules (fullOf (view f)) (view f)) refl)) ∙ picture-zero) .0
 
-  known : Accepted f (headIn f .big) (headIn f .at) (countIn f (headIn f)) (typColumn Entries) (countColumn Entries) (startColumn (headIn f .at) Entries)
-      (lenColumn (countIn f (headIn f)) Entries)
+  known : Accepted f (headIn f .big) (headIn f .at) (countIn f (headIn f)) (Column (λ e. e .typ)) (Column (λ e. e .count)) (Column (λ e. e .start)) (Column (λ e. e .len))
   known = tags-accepted f _ _ _ _ _ _ _ ready (rw view-seen at table-zero)
 
   -- tag k of the table
-  pub image-stands : (k : ℕ) → k < 21 → Stands f (view f .held) (tagAt k)
+  pub image-stands : (k : ℕ) → k < Index.many → Stands f (view f .held) (tagAt k)
   image-stands k h =
-      let s = slot f _ _ _ _ _ _ _ ready k h in
+      let s = slot-at ready k h in
       let w : find (tagAt k) Helds .entry .start + find (tagAt k) Helds .entry .len ≤ length f =
       subst (λ (x : ℕ). x + find (tagAt k) Helds .entry .len ≤ length f) (sym (s .start))
-      (subst (λ (y : ℕ). getD (startColumn (headIn f .at) Entries) k 0 + y ≤ length f) (sym (s .len)) (s .within)) in
+      (subst (λ (y : ℕ). getD (Column (λ e. e .start)) k 0 + y ≤ length f) (sym (s .len)) (s .within)) in
       let b : run f (find (tagAt k) Helds .entry .start) (find (tagAt k) Helds .entry .len) ≡ bytesOf (tagAt k) Helds =
       ap₂ (run f) (s .start) (s .len) ∙ sym (s .bytes) in
       subst (λ (hs : List Held). Stands f hs (tagAt k)) (sym held-is) (record { bytes = b; within = w })
 
   -- it is present exactly where its value does not start at 0
-  image-present : (k : ℕ) → k < 21 → has (tagAt k) (view f .held) ≡ not (eqb (find (tagAt k) (view f .held) .entry .start) 0)
+  image-present : (k : ℕ) → k < Index.many → has (tagAt k) (view f .held) ≡ not (eqb (find (tagAt k) (view f .held) .entry .start) 0)
   image-present k h =
-      let s = slot f _ _ _ _ _ _ _ ready k h in
+      let s = slot-at ready k h in
       let p : has (tagAt k) Helds ≡ not (eqb (find (tagAt k) Helds .entry .start) 0) =
       s .present ∙ ap (λ (x : ℕ). not (eqb x 0)) (sym (s .start)) in
       subst (λ (hs : List Held). has (tagAt k) hs ≡ not (eqb (find (tagAt k) hs .entry .start) 0)) (sym held-is) p
@@ -152,12 +155,12 @@ module _ (f : List ℕ) (zero : imageStage f .number ≡ 0) where
       go true h = inl h
       go false h = inr h
 
-  pub sized : Sized (bytesOf 33550 (view f .held)) (bytesOf 33922 (view f .held)) (bytesOf 34264 (view f .held))
+  pub sized : Sized (bytesOf Tag.scale (view f .held)) (bytesOf Tag.tiepoint (view f .held)) (bytesOf Tag.matrix (view f .held))
   sized =
       record {
-        scale = sized-one 24 33550 14 (known .scale);
-        tiepoint = sized-one 48 33922 15 (known .tiepoint);
-        matrix = sized-one 128 34264 16 (known .matrix);
+        scale = sized-one 24 Tag.scale 14 (known .scale);
+        tiepoint = sized-one 48 Tag.tiepoint 15 (known .tiepoint);
+        matrix = sized-one 128 Tag.matrix 16 (known .matrix);
       }
 
 -- ---- all rules are kept
@@ -170,10 +173,10 @@ module _ (f : List ℕ) (zero : verdictOf f .number ≡ 0) where
   pub size : length f ≤ 4294967295
   size = file-size f image-zero
 
-  pub stands : (k : ℕ) → k < 21 → Stands f (view f .held) (tagAt k)
+  pub stands : (k : ℕ) → k < Index.many → Stands f (view f .held) (tagAt k)
   stands = image-stands f image-zero
 
-  pub present : (k : ℕ) → k < 21 → has (tagAt k) (view f .held) ≡ not (eqb (find (tagAt k) (view f .held) .entry .start) 0)
+  pub present : (k : ℕ) → k < Index.many → has (tagAt k) (view f .held) ≡ not (eqb (find (tagAt k) (view f .held) .entry .start) 0)
   present = image-present f image-zero
 
   pub further-stands : FurtherHolds f (headIn f .big) (headIn f .at) (countIn f (headIn f)) (furtherOf (headIn f .at) (entriesIn f (headIn f)))

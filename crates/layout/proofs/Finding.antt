@@ -1,30 +1,22 @@
--- The places of the table's tags: what a place says of the entry that is found, and the slot of a tag. Assumes nothing.
+-- What a place says of the entry that is found, and the slot of a tag. Assumes nothing.
 use Prim.Native.Nat.{ℕ, zero, suc, _+_, _-_, _≤_, _<_, zero-le}
 use mathlib.Core.Path.{_≡_, refl, sym, ap, _∙_, subst}
-use mathlib.Core.Bool.{Bool, true, false, not, _&&_, _||_, false≢true}
+use mathlib.Core.Bool.{Bool, true, false, false≢true}
 use mathlib.Core.List.{List, [], _∷_}
-use native.Mathlib.Nat.{not-suc-le-zero}
+use native.Mathlib.Nat.{not-suc-le-zero, zero-add}
 use native.Mathlib.Omega.{arith}
 use native.Mathlib.Numerals.{add-one}
 use lib.Dec.{eqb, ltb}
 use lib.ListN.{length, getD}
-use borrow.Author.Tests.{eqb-true, eqb-false, eq-eqb, ne-eqb, ltb-true}
+use borrow.Author.Tests.{eqb-true, eq-eqb, ne-eqb, ltb-true}
 use Rattle.paper.specs.Bytes.{build}
 use Rattle.paper.specs.Layout.{entryAt, entries}
-use Rattle.paper.specs.Tags.{absent, table}
+use Rattle.paper.specs.Tags.{absent}
 use Rattle.paper.specs.declared.Entry.{Entry}
 use Rattle.paper.specs.Tests.{all, indexOf}
-use Rattle.paper.proofs.Laws.{and-eq}
-use Rattle.paper.proofs.Store.{distinct}
+use Rattle.paper.proofs.Laws.{and-eq, all-at, length-build, getD-build}
 use Rattle.paper.proofs.Loops.{findEntry}
-use Rattle.layout.specs.Finding.{cellOf, cellTags, cellSlots, inCell, placeFrom, placeIn, foundOf}
-use Rattle.layout.specs.Columns.{tags}
-
--- ---- the table
-
-pub tags-distinct : distinct tags ≡ true
-unfolding tags table
-tags-distinct = refl
+use Rattle.layout.specs.Finding.{cellOf, inCell, right, Celled, placeFrom, placeIn, foundOf}
 
 -- ---- a place found
 
@@ -101,58 +93,29 @@ none-passes ok (t ∷ ts) x h n = go (eqb x t) refl (none-passes ok ts x (and-eq
     go true e r = absurd (false≢true (sym n ∙ ap ok (eqb-true x t e) ∙ and-eq (ok t) _ h .0))
     go false e r = rw e (ap suc r)
 
--- each tag of the table stands in its cell
-all-stand : all inCell tags ≡ true
-unfolding all inCell cellOf cellTags tags table
-all-stand = refl
-
-pub cell-none : (t : ℕ) → inCell t ≡ false → 21 ≡ indexOf t tags
-unfolding tags table
-cell-none t h = sym (none-passes inCell tags t all-stand h)
-
 -- a test that passes for each number below n
-passes : (ℕ → Bool) → ℕ → Bool
-passes ok zero = true
-passes ok (suc n) = ok n && passes ok n
+passes-at : (ok : ℕ → Bool) (n : ℕ) → all ok (build (λ c. c) 0 n) ≡ true → (c : ℕ) → c < n → ok c ≡ true
+passes-at ok n h c l =
+    let e : getD (build (λ (c : ℕ). c) 0 n) c 0 ≡ c = getD-build (λ (c : ℕ). c) 0 0 n c l ∙ zero-add c in
+    subst (λ (x : ℕ). ok x ≡ true) e (all-at ok (build (λ (c : ℕ). c) 0 n) 0 h c (subst (λ (m : ℕ). c < m) (sym (length-build (λ (c : ℕ). c) 0 n)) l))
 
-passes-at : (ok : ℕ → Bool) (n : ℕ) → passes ok n ≡ true → (c : ℕ) → c < n → ok c ≡ true
-unfolding passes
-passes-at ok zero h c l = absurd (not-suc-le-zero l)
-passes-at ok (suc n) h c l = go (eqb c n) refl (passes-at ok n (and-eq (ok n) _ h .1) c)
-  where
-    go : (b : Bool) → eqb c n ≡ b → (c < n → ok c ≡ true) → ok c ≡ true
-    go true e r = ap ok (eqb-true c n e) ∙ and-eq (ok n) _ h .0
-    go false e r = let w : c ≡ n → ⊥ = eqb-false c n e in r (omega arith)
+module _ {factor : ℕ} {cells slots ts : List ℕ} (is : Celled factor cells slots ts) where
+  -- a tag that does not stand in its cell is none of them
+  pub cell-none : (t : ℕ) → inCell factor cells t ≡ false → length ts ≡ indexOf t ts
+  cell-none t h = sym (none-passes (inCell factor cells) ts t (is .stand) h)
 
--- a cell holds a tag of the table, with its index, or one of another cell
-right : ℕ → Bool
-right c =
-    not (eqb (cellOf (getD cellTags c 0)) c)
-    || (ltb (getD cellSlots c 0) 21 && eqb (getD cellSlots c 0) (indexOf (getD cellTags c 0) tags))
+  cell-low : (t : ℕ) → cellOf factor t < 32
+  unfolding cellOf
+  cell-low t = omega arith
 
-all-right : passes right 32 ≡ true
-unfolding passes right cellOf cellTags cellSlots indexOf tags table
-all-right = refl
-
-cell-low : (t : ℕ) → cellOf t < 32
-unfolding cellOf
-cell-low t = omega arith
-
--- the slot in the cell of a tag that stands there
-cell-slot : (t : ℕ) → getD cellTags (cellOf t) 0 ≡ t → (getD cellSlots (cellOf t) 0 ≡ indexOf t tags) × (getD cellSlots (cellOf t) 0 < 21)
-unfolding right
-cell-slot t h =
-    let own : cellOf (getD cellTags (cellOf t) 0) ≡ cellOf t = ap cellOf h in
-    let r : right (cellOf t) ≡ true = passes-at right 32 all-right (cellOf t) (cell-low t) in
-    let both = and-eq (ltb (getD cellSlots (cellOf t) 0) 21) _ (rw (eq-eqb _ _ own) at r) in
-    (eqb-true _ _ (both .1) ∙ ap (λ (x : ℕ). indexOf x tags) h, ltb-true _ _ (both .0))
-
--- as code looks them up
-module _ (t cell : ℕ) (is-cell : cell ≡ cellOf t) (x : ℕ) where
-  pub listed-by : (cells : List ℕ) → cells ≡ cellTags → x ≡ getD cells cell 0 → eqb x t ≡ inCell t
-  unfolding inCell
-  listed-by cells p q = rw (q, p, is-cell)
-
-  pub slot-by : (slots : List ℕ) → slots ≡ cellSlots → x ≡ getD slots cell 0 → inCell t ≡ true → (x ≡ indexOf t tags) × (x < 21)
-  unfolding inCell
-  slot-by slots p q h = rw (q, p, is-cell) (cell-slot t (eqb-true _ _ h))
+  -- the slot in the cell of a tag that stands there
+  pub cell-slot : (t : ℕ) → inCell factor cells t ≡ true → (getD slots (cellOf factor t) 0 ≡ indexOf t ts) × (getD slots (cellOf factor t) 0 < length ts)
+  unfolding inCell right
+  cell-slot t h =
+      let c = cellOf factor t in
+      let l : c < 32 = cell-low t in
+      let held : getD cells (cellOf factor t) 0 ≡ t = eqb-true _ _ h in
+      let own : cellOf factor (getD cells (cellOf factor t) 0) ≡ cellOf factor t = ap (cellOf factor) held in
+      let r : right factor cells slots ts (cellOf factor t) ≡ true = passes-at (right factor cells slots ts) 32 (is .rights) (cellOf factor t) l in
+      let both = and-eq (ltb (getD slots (cellOf factor t) 0) (length ts)) _ (rw (eq-eqb _ _ own) at r) in
+      (eqb-true _ _ (both .1) ∙ ap (λ (x : ℕ). indexOf x ts) held, ltb-true _ _ (both .0))

@@ -4,5 +4,6 @@ pub mod Opening
 pub mod Finding
 pub mod Turns
 pub mod Values
+pub mod Stages
 pub mod Repeats
 pub mod Ordering

@@ -15,6 +15,7 @@ use Rattle.paper.specs.declared.Outcome.the-variants.{Kept as kept, Broken as b
 use Rattle.paper.specs.Tests.{keep}
 use Rattle.paper.specs.Layout.{entryOf, entryAt, entries, behind, rule6}
 use Rattle.paper.specs.declared.Entry.{Entry}
+use Rattle.paper.specs.Tag
 use Rattle.paper.proofs.Laws.{or-false}
 use Rattle.paper.proofs.Loops.{build-end}
 use Rattle.paper.proofs.Several.{rises-strict, no-other, rising}
@@ -30,13 +31,13 @@ module _ {tag next : ℕ} where
   unfolding behind
   below h = rw (lt-ltb tag next h)
 
-  pub text-first : next ≤ tag → tag ≡ 50909 → not (eqb next 50909) ≡ not (behind tag next)
+  pub text-first : next ≤ tag → tag ≡ Tag.metadata → not (eqb next Tag.metadata) ≡ not (behind tag next)
   unfolding behind
-  text-first h e = rw (le-ltb tag next h, eq-eqb tag 50909 e)
+  text-first h e = rw (le-ltb tag next h, eq-eqb tag Tag.metadata e)
 
-  pub other-first : next ≤ tag → (tag ≡ 50909 → ⊥) → true ≡ not (behind tag next)
+  pub other-first : next ≤ tag → (tag ≡ Tag.metadata → ⊥) → true ≡ not (behind tag next)
   unfolding behind
-  other-first h e = rw (le-ltb tag next h, ne-eqb tag 50909 e)
+  other-first h e = rw (le-ltb tag next h, ne-eqb tag Tag.metadata e)
 
 -- ---- the pass
 
@@ -98,10 +99,10 @@ module _ {big : Bool} {at c : ℕ} {dir : List ℕ} {h six next first many : ℕ
   unfolding rule6
   rises′ = rw (is-six, is-bad, here) (told-order behind tag top next six (map (λ e. e .tag) Rest) low-next (pass .rises) (pass .after))
 
-  pub count-text : tag ≡ 50909 → Counting big at c dir (h - 1) six′ tag (h - 1) (many + 1)
+  pub count-text : tag ≡ Tag.metadata → Counting big at c dir (h - 1) six′ tag (h - 1) (many + 1)
   unfolding front textCount keep firstText
   count-text e =
-      let t : isText Here ≡ true = eq-eqb (Here .tag) 50909 (here ∙ e) in
+      let t : isText Here ≡ true = eq-eqb (Here .tag) Tag.metadata (here ∙ e) in
       record {
         few = omega (arith, pass .few);
         near6 = near bad next six is-six (pass .near) (pass .near6);
@@ -114,10 +115,10 @@ module _ {big : Bool} {at c : ℕ} {dir : List ℕ} {h six next first many : ℕ
         low = omega (arith, pass .few);
       }
 
-  pub count-other : (tag ≡ 50909 → ⊥) → Counting big at c dir (h - 1) six′ tag first many
+  pub count-other : (tag ≡ Tag.metadata → ⊥) → Counting big at c dir (h - 1) six′ tag first many
   unfolding front textCount keep firstText
   count-other e =
-      let t : isText Here ≡ false = ne-eqb (Here .tag) 50909 (λ z. e (sym here ∙ z)) in
+      let t : isText Here ≡ false = ne-eqb (Here .tag) Tag.metadata (λ z. e (sym here ∙ z)) in
       record {
         few = omega (arith, pass .few);
         near6 = near bad next six is-six (pass .near) (pass .near6);
@@ -203,17 +204,17 @@ module _ {big : Bool} {at c : ℕ} {dir : List ℕ} {i six next first many : ℕ
 -- the tags ascend, or they do not and not because of 50909
 one-text : (es : List Entry) → ascending (map (λ e. e .tag) es) ≡ kept → textCount es ≤ 1
 unfolding textCount
-one-text es h = go (keep isText es) (no-other (λ e. e .tag) ltb 50909 (rises-strict 50909) es h)
+one-text es h = go (keep isText es) (no-other (λ e. e .tag) ltb Tag.metadata (rises-strict Tag.metadata) es h)
   where
     go : (xs : List Entry) → drop 1 xs ≡ [] → length xs ≤ 1
     go [] e = zero-le
     go (x ∷ xs) e = let w : length xs ≡ 0 = ap length e in omega arith
 
-pub order-known : {at : ℕ} {es : List Entry} {six : ℕ} → six ≤ 65536 → toldBy six ≡ ascending (map (λ e. e .tag) es) → (six ≡ 50909 → ⊥)
+pub order-known : {at : ℕ} {es : List Entry} {six : ℕ} → six ≤ 65536 → toldBy six ≡ ascending (map (λ e. e .tag) es) → (six ≡ Tag.metadata → ⊥)
     → OrderedAs es at (record { six = six; further = record { start = 0; many = 0 } })
 unfolding rule6
 order-known {at} {es} {six} low known n =
-    let same : ordered behind (map (λ e. e .tag) es) ≡ ascending (map (λ e. e .tag) es) = rising (map (λ e. e .tag) es) (λ w. n (told-place six 50909 (known ∙ w))) in
+    let same : ordered behind (map (λ e. e .tag) es) ≡ ascending (map (λ e. e .tag) es) = rising (map (λ e. e .tag) es) (λ w. n (told-place six Tag.metadata (known ∙ w))) in
     record { low = low; six = known ∙ sym same; further = sym (go (ordered behind (map (λ e. e .tag) es)) (sym same)) }
   where
     go : (o : Outcome) → ascending (map (λ e. e .tag) es) ≡ o → furtherBy o at es ≡ noFurther

@@ -13,6 +13,7 @@ use Rattle.paper.specs.declared.Outcome.the-variants.{Kept as kept, Broken as b
 use Rattle.paper.specs.Tests.{keep}
 use Rattle.paper.specs.Layout.{dirLen, startOf, entryOf, entryAt, entries, behind, rule6, rule7}
 use Rattle.paper.specs.declared.Entry.{Entry}
+use Rattle.paper.specs.Tag
 use Rattle.paper.proofs.Laws.{num-run, length-build, getD-build}
 use Rattle.paper.proofs.Several.{ordered-more}
 use Rattle.layout.specs.Repeats.{isText, textCount, firstText, furtherOf, laterTexts, entriesFrom}
@@ -22,40 +23,40 @@ use Rattle.layout.proofs.Values.{entry-within}
 -- ---- side by side
 
 -- behind a tag above 50909 there is none
-none-above : (a : ℕ) (es : List Entry) → 50909 < a → orderedFrom behind a (map (λ e. e .tag) es) ≡ kept → keep isText es ≡ []
+none-above : (a : ℕ) (es : List Entry) → Tag.metadata < a → orderedFrom behind a (map (λ e. e .tag) es) ≡ kept → keep isText es ≡ []
 unfolding orderedFrom keep behind
 none-above a [] l h = refl
 none-above a (e ∷ es) l h = go (ltb a (e .tag)) refl (none-above (e .tag) es)
   where
-    go : (b : Bool) → ltb a (e .tag) ≡ b → (50909 < e .tag → orderedFrom behind (e .tag) (map (λ e. e .tag) es) ≡ kept → keep isText es ≡ [])
+    go : (b : Bool) → ltb a (e .tag) ≡ b → (Tag.metadata < e .tag → orderedFrom behind (e .tag) (map (λ e. e .tag) es) ≡ kept → keep isText es ≡ [])
         → keep isText (e ∷ es) ≡ []
     go true q r =
         let m = ltb-true a (e .tag) q in
-        let n : eqb (e .tag) 50909 ≡ false = ne-eqb (e .tag) 50909 (λ z. omega arith) in
+        let n : eqb (e .tag) Tag.metadata ≡ false = ne-eqb (e .tag) Tag.metadata (λ z. omega arith) in
         rw n (r (omega arith) (rw q at h))
     go false q r =
-        let n : eqb a 50909 ≡ false = ne-eqb a 50909 (λ z. omega arith) in
+        let n : eqb a Tag.metadata ≡ false = ne-eqb a Tag.metadata (λ z. omega arith) in
         let w : broken (e .tag) ≡ kept = rw (q, n) at h in cc
 
 module _ (g : ℕ → Entry) where
   -- behind a 50909 come the others, then none
-  run-on : (j k : ℕ) → orderedFrom behind 50909 (map (λ e. e .tag) (build g j k)) ≡ kept → keep isText (build g j k) ≡ build g j (textCount (build g j k))
+  run-on : (j k : ℕ) → orderedFrom behind Tag.metadata (map (λ e. e .tag) (build g j k)) ≡ kept → keep isText (build g j k) ≡ build g j (textCount (build g j k))
   unfolding orderedFrom keep behind build textCount
   run-on j zero h = refl
   run-on j (suc k) h = go (isText (g j)) refl (run-on (suc j) k)
     where
       go : (b : Bool) → isText (g j) ≡ b
-          → (orderedFrom behind 50909 (map (λ e. e .tag) (build g (suc j) k)) ≡ kept → keep isText (build g (suc j) k) ≡ build g (suc j) (textCount (build g (suc j) k)))
+          → (orderedFrom behind Tag.metadata (map (λ e. e .tag) (build g (suc j) k)) ≡ kept → keep isText (build g (suc j) k) ≡ build g (suc j) (textCount (build g (suc j) k)))
           → keep isText (build g j (suc k)) ≡ build g j (textCount (build g j (suc k)))
       go true q r =
-          let t : g j .tag ≡ 50909 = eqb-true _ _ q in
-          let o : orderedFrom behind 50909 (map (λ e. e .tag) (build g (suc j) k)) ≡ kept = rw t at h in
+          let t : g j .tag ≡ Tag.metadata = eqb-true _ _ q in
+          let o : orderedFrom behind Tag.metadata (map (λ e. e .tag) (build g (suc j) k)) ≡ kept = rw t at h in
           rw q (ap (λ (es : List Entry). g j ∷ es) (r o))
-      go false q r = on (ltb 50909 (g j .tag)) refl
+      go false q r = on (ltb Tag.metadata (g j .tag)) refl
         where
-          on : (b : Bool) → ltb 50909 (g j .tag) ≡ b → keep isText (build g j (suc k)) ≡ build g j (textCount (build g j (suc k)))
+          on : (b : Bool) → ltb Tag.metadata (g j .tag) ≡ b → keep isText (build g j (suc k)) ≡ build g j (textCount (build g j (suc k)))
           on true p =
-              let n : keep isText (build g (suc j) k) ≡ [] = none-above (g j .tag) (build g (suc j) k) (ltb-true 50909 (g j .tag) p) (rw p at h) in
+              let n : keep isText (build g (suc j) k) ≡ [] = none-above (g j .tag) (build g (suc j) k) (ltb-true Tag.metadata (g j .tag) p) (rw p at h) in
               rw (q, n)
           on false p = let w : broken (g j .tag) ≡ kept = rw (p, q) at h in cc
 
@@ -69,7 +70,7 @@ module _ (g : ℕ → Entry) where
           → keep isText (build g (suc i) k) ≡ build g (suc i + firstText (build g (suc i) k)) (textCount (build g (suc i) k))
           → keep isText (build g i (suc k)) ≡ build g (i + firstText (build g i (suc k))) (textCount (build g i (suc k)))
       go true q r =
-          let t : g i .tag ≡ 50909 = eqb-true _ _ q in
+          let t : g i .tag ≡ Tag.metadata = eqb-true _ _ q in
           let z : i + 0 ≡ i = omega arith in
           rw (q, z) (ap (λ (es : List Entry). g i ∷ es) (run-on (suc i) k (rw t at h)))
       go false q r =

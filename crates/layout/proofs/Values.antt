@@ -7,7 +7,6 @@ use mathlib.Core.List.{List, map}
 use native.Mathlib.Nat.{zero-mul}
 use native.Mathlib.Omega.{arith}
 use lib.Dec.{eqb}
-use lib.ListN.{getD}
 use borrow.Author.Tests.{eqb-true, ne-eqb, ltb-false}
 use Rattle.paper.specs.Bytes.{run, num, build}
 use Rattle.paper.specs.Outcome.{first}
@@ -15,15 +14,13 @@ use Rattle.paper.specs.declared.Outcome.the-variants.{Kept as kept}
 use Rattle.paper.specs.declared.Entry.{Entry}
 use Rattle.paper.specs.declared.Verdict.{Verdict}
 use Rattle.paper.specs.Layout.{dirLen, sizeOf, startOf, entryOf, entryAt, entries, typed, rule6, rule7}
-use Rattle.paper.specs.Tests.{all, some}
-use Rattle.paper.specs.Tags.{Line, table, inTable, listed, hold, find, bytesOf}
+use Rattle.paper.specs.Tests.{all}
+use Rattle.paper.specs.Tags.{Line, inTable, listed, hold, find, bytesOf}
 use Rattle.paper.specs.Judge.{Head, entryRules}
-use Rattle.paper.proofs.Laws.{all-at}
 use Rattle.paper.proofs.Loops.{findEntry}
 use Rattle.paper.proofs.Bounds.{entry-inside}
 use Rattle.paper.proofs.First.{kept-first}
 use Rattle.layout.specs.Finding.{foundOf}
-use Rattle.layout.specs.Columns.{tags}
 
 -- where the verdict v of rules 6 and 7 is 0, both are kept
 module _ (h : Head) (es : List Entry) {v : Verdict} (is-v : v ≡ first (entryRules h es)) (zero : v .number ≡ 0) where
@@ -92,16 +89,7 @@ module _ (tb : List Line) (f : List ℕ) (t : ℕ) (m : inTable tb t ≡ true) w
       go false q true y r = rw q r
       go false q false y r = rw q r
 
-pub found-bytes : (f : List ℕ) (t : ℕ) (big : Bool) (at c : ℕ) (dir : List ℕ) → inTable table t ≡ true
-    → bytesOf t (map (hold table f) (entries big at c dir)) ≡ run f (findEntry t (entries big at c dir) .start) (findEntry t (entries big at c dir) .len)
+pub found-bytes : (tb : List Line) (f : List ℕ) (t : ℕ) (big : Bool) (at c : ℕ) (dir : List ℕ) → inTable tb t ≡ true
+    → bytesOf t (map (hold tb f) (entries big at c dir)) ≡ run f (findEntry t (entries big at c dir) .start) (findEntry t (entries big at c dir) .len)
 unfolding entries
-found-bytes f t big at c dir m = bytes-from table f t m (entryAt big at dir) (λ j. untyped-len big at dir (2 + 12 * j)) 0 c
-
-tags-in : all (inTable table) tags ≡ true
-unfolding all some inTable table tags
-tags-in = refl
-
--- tag k is in the table
-pub tag-in : (k : ℕ) → k < 21 → inTable table (getD tags k 0) ≡ true
-unfolding tags table
-tag-in k h = all-at (inTable table) tags 0 tags-in k h
+found-bytes tb f t big at c dir m = bytes-from tb f t m (entryAt big at dir) (λ j. untyped-len big at dir (2 + 12 * j)) 0 c

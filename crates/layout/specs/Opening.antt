@@ -2,7 +2,7 @@
 -- with its place, or what is then known. Assumes nothing.
 use Prim.Native.Nat.{ℕ, _≤_}
 use mathlib.Core.Path.{_≡_}
-use mathlib.Core.Bool.{cond}
+use mathlib.Core.Bool.{Bool, cond}
 use mathlib.Core.List.{List, [], _∷_}
 use lib.Dec.{eqb}
 use lib.ListN.{length}
@@ -50,6 +50,11 @@ countedOf f h = opened (countStage f h) (countIn f h)
 -- rules 4 and 5
 unfoldable pub openedOf : List ℕ → Head → Opened
 openedOf f h = opened (offsetStage h ▷ countStage f h) (countIn f h)
+
+-- rules 1 to 5 are kept, and a directory of c entries is laid at the place that the head names
+pub record LaidAt (f : List ℕ) (big : Bool) (at c : ℕ) : Type 0 where
+  pub head : headedOf f ≡ Good big at
+  pub count : openedOf f (record { size = length f; big = big; at = at }) ≡ Laid c
 
 -- where the further entries of 50909 stand, told where rule 6 is kept
 abbrev pub furtherBy : Outcome → ℕ → List Entry → Further

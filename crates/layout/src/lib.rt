@@ -1,20 +1,19 @@
-// The layout of a file: its head, and of a directory its offset, its count and its entries, rules 1 to 7; where the tags of the table stand, and tag
+// The layout of a file: its head, and of a directory its offset, its count and its entries, rules 1 to 7; where the tags of a table stand, and tag
 // 50909 where it stands more than once; an entry's value.
 ghost use mathlib.Core.Path.{_≡_};
-ghost use mathlib.Core.Bool.{true, not, _||_};
+ghost use mathlib.Core.Bool.{not, _||_};
 ghost use mathlib.Core.List.{[], map};
 ghost use Prim.Native.Nat.{_+_, _*_, _≤_, _<_};
 ghost use lib.Dec.{ltb};
-ghost use lib.ListN.{length};
+ghost use lib.ListN.{length, getD};
 ghost use Rattle.paper.specs.Bytes.{run};
 ghost use Rattle.paper.specs.declared.Outcome.the-variants.{Kept as kept};
 ghost use Rattle.paper.specs.Outcome.{ascending};
 ghost use Rattle.paper.specs.Layout.{odd, isBig, dirLen, rule2, sizeOf, entryOf, entries, behind, badValue};
-ghost use Rattle.paper.specs.Tests.{indexOf};
 ghost use Rattle.outcomes.specs.Told.{toldBy};
 ghost use Rattle.layout.specs.Opening.{markedOf, headedOf, countedOf, openedOf, scannedOf, OrderedAs};
-ghost use Rattle.layout.specs.Finding.{cellOf, cellTags, cellSlots, inCell};
-ghost use Rattle.layout.specs.Columns.{tags, typColumn, countColumn, startColumn, lenColumn};
+ghost use Rattle.layout.specs.Finding.{cellOf, inCell, slotTags, Celled};
+ghost use Rattle.layout.specs.Columns.{Columns};
 use paper::Entry;
 use paper::Verdict;
 
@@ -205,84 +204,15 @@ fn bad_value(e: Entry, n: usize) -> bool
     0 < size_of(e.typ)
 }
 
-// The tags of the table, each in its cell of 32, and a tag of another cell in every cell that is left.
-pub const CELLS: [u16; 32] = [
-    322,
-    34736,
-    323,
-    34737,
-    0,
-    324,
-    0,
-    277,
-    325,
-    0,
-    278,
-    50909,
-    279,
-    0,
-    34264,
-    256,
-    0,
-    257,
-    33550,
-    0,
-    258,
-    0,
-    0,
-    259,
-    33922,
-    0,
-    284,
-    0,
-    273,
-    0,
-    34735,
-    262,
-];
+// How many cells a table has for its tags.
+pub const CELLS: usize = 32;
 
-// The index of each cell's tag in the table.
-pub const SLOTS: [u8; 32] = [
-    10,
-    18,
-    11,
-    19,
-    0,
-    12,
-    0,
-    6,
-    13,
-    0,
-    7,
-    20,
-    8,
-    0,
-    16,
-    0,
-    0,
-    1,
-    14,
-    0,
-    2,
-    0,
-    0,
-    3,
-    15,
-    0,
-    9,
-    0,
-    5,
-    0,
-    17,
-    4,
-];
-
-// The cell of a tag. No two tags of the table share one.
-fn cell_of(tag: usize) -> usize
-    requires { ⌜ tag < 65536 ⌝ }
-    ensures { λ r. ⌜ (r ≡ cellOf tag) × (r < 32) ⌝ }
+// The cell of a tag. A table has a factor for which no two of its tags share one.
+fn cell_of(factor: usize, tag: usize) -> usize
+    requires { ⌜ (factor < 65536) × (tag < 65536) ⌝ }
+    ensures { λ r. ⌜ (r ≡ cellOf factor tag) × (r < 32) ⌝ }
 {
-    tag * 687 / 256 % 32
+    tag * factor / 256 % CELLS
 }
 
 // A tag of a cell.
@@ -292,28 +222,28 @@ fn wide(tag: u16) -> usize
     tag as usize
 }
 
-// An index of a cell.
+// A slot of a cell.
 fn wide_slot(slot: u8) -> usize
-    ensures { λ r. ⌜ r ≡ slot ⌝ }
+    ensures { λ r. ⌜ (r ≡ slot) × (r < 256) ⌝ }
 {
     slot as usize
 }
 
 // Whether a tag is in the table: it stands in its cell.
-fn is_listed(cells: &[u16; 32], tag: usize) -> bool
-    requires { ⌜ (now cells ≡ cellTags) × (tag < 65536) ⌝ }
-    ensures { λ r. ⌜ r ≡ inCell tag ⌝ }
+fn is_listed(cells: &[u16; CELLS], factor: usize, tag: usize) -> bool
+    requires { ⌜ (factor < 65536) × (tag < 65536) ⌝ }
+    ensures { λ r. ⌜ r ≡ inCell factor (now (cells .entry)) tag ⌝ }
 {
-    let cell = cell_of(tag);
+    let cell = cell_of(factor, tag);
     wide(cells[cell]) == tag
 }
 
-// The index of a tag of the table.
-fn slot_of(slots: &[u8; 32], tag: usize) -> usize
-    requires { ⌜ (now slots ≡ cellSlots) × (tag < 65536) × (inCell tag ≡ true) ⌝ }
-    ensures { λ r. ⌜ (r ≡ indexOf tag tags) × (r < 21) ⌝ }
+// The slot of a tag of the table.
+fn slot_of(slots: &[u8; CELLS], factor: usize, tag: usize) -> usize
+    requires { ⌜ (factor < 65536) × (tag < 65536) ⌝ }
+    ensures { λ r. ⌜ (r ≡ getD (now (slots .entry)) (cellOf factor tag) 0) × (r < 256) ⌝ }
 {
-    let cell = cell_of(tag);
+    let cell = cell_of(factor, tag);
     wide_slot(slots[cell])
 }
 
@@ -380,27 +310,26 @@ fn judge_order(dir: &[u8], big: bool, at: usize, c: usize, six: usize) -> Ordere
     order_again(dir, big, at, c)
 }
 
-// Rules 6 and 7, the next offset, and a column of each field of the table's tags, in one pass from the last entry to the first: at each turn all is
-// known of the entries from i on. The columns are lent as those of no entry; the starts and lengths end with those of the head and of the directory.
+// Rules 6 and 7, the next offset, and a column of each field of a table's tags, in one pass from the last entry to the first: at each turn all is known
+// of the entries from i on. The table is given by the cells of its tags, the slot of each cell's tag and the factor that finds a cell; the columns have
+// a number for each slot, and are lent as those of no entry.
 pub fn scan(
-    cells: &[u16; 32],
-    slots: &[u8; 32],
+    cells: &[u16; CELLS],
+    slots: &[u8; CELLS],
+    factor: usize,
     dir: &[u8],
     big: bool,
     at: usize,
     c: usize,
     n: usize,
-    typs: &mut [usize; 21],
-    counts: &mut [usize; 21],
-    starts: &mut [usize; 23],
-    lens: &mut [usize; 23],
+    typs: &mut [u32],
+    counts: &mut [u32],
+    starts: &mut [usize],
+    lens: &mut [usize],
 ) -> Scanned
-    requires { ⌜ (dirLen c ≤ length (now dir)) × (0 < c) × (c ≤ 1024) × (at + dirLen c ≤ n) × (n ≤ 4294967295) × (now typs ≡ typColumn []) × (now counts ≡ countColumn []) × (now starts ≡ startColumn at []) × (now lens ≡ lenColumn c []) × (now cells ≡ cellTags) × (now slots ≡ cellSlots) ⌝ }
+    requires { ⌜ (dirLen c ≤ length (now dir)) × (0 < c) × (c ≤ 1024) × (at + dirLen c ≤ n) × (n ≤ 4294967295) × (factor < 65536) × Celled factor (now cells) (now slots) (slotTags (now cells) (now slots) (length (now typs))) × Columns (slotTags (now cells) (now slots) (length (now typs))) [] (now typs) (now counts) (now starts) (now lens) ⌝ }
     ensures scanned { λ r. ⌜ r ≡ scannedOf (record { size = n; big = big; at = at }) c (now (dir .entry)) ⌝ }
-    ensures typs { λ _. ⌜ now (typs .exit) ≡ typColumn (entries big at c (now (dir .entry))) ⌝ }
-    ensures counts { λ _. ⌜ now (counts .exit) ≡ countColumn (entries big at c (now (dir .entry))) ⌝ }
-    ensures starts { λ _. ⌜ now (starts .exit) ≡ startColumn at (entries big at c (now (dir .entry))) ⌝ }
-    ensures lens { λ _. ⌜ now (lens .exit) ≡ lenColumn c (entries big at c (now (dir .entry))) ⌝ }
+    ensures columns { λ _. ⌜ Columns (slotTags (now (cells .entry)) (now (slots .entry)) (length (now (typs .entry)))) (entries big at c (now (dir .entry))) (now (typs .exit)) (now (counts .exit)) (now (starts .exit)) (now (lens .exit)) ⌝ }
 {
     let mut six = outcomes::NONE;
     let mut seven = outcomes::NONE;
@@ -414,10 +343,10 @@ pub fn scan(
         next = e.tag;
         // Rule 7: the count is not 0, and the value lies in the file.
         seven = outcomes::broken_or(bad_value(e, n), e.tag, seven);
-        if is_listed(cells, e.tag) {
-            let k = slot_of(slots, e.tag);
-            typs[k] = e.typ;
-            counts[k] = e.count;
+        if is_listed(cells, factor, e.tag) {
+            let k = slot_of(slots, factor, e.tag);
+            typs[k] = e.typ as u32;
+            counts[k] = e.count as u32;
             starts[k] = e.start;
             lens[k] = e.len;
         }

@@ -15,6 +15,7 @@ use Rattle.paper.specs.declared.Outcome.the-variants.{Kept as kept}
 use Rattle.paper.specs.declared.Row.{Row}
 use Rattle.paper.proofs.Laws.{run-length-in}
 use Rattle.paper.proofs.Called.{answer-good}
+use Rattle.tags.specs.Index
 use Rattle.tags.specs.Slots.{tagAt, lineAt}
 use Rattle.keys.specs.Pass.{runs}
 use Rattle.keys.proofs.Rows.{row-asks}
@@ -48,15 +49,15 @@ module _ (f : List ℕ) (zero : verdictOf f .number ≡ 0) where
 
   directory : Stands f (view f .held) Tag.keyDirectory
   unfolding tagAt lineAt table
-  directory = stands f zero 17 (lit< tt)
+  directory = stands f zero Index.keyDirectory (lit< tt)
 
   doubles : Stands f (view f .held) Tag.doubles
   unfolding tagAt lineAt table
-  doubles = stands f zero 18 (lit< tt)
+  doubles = stands f zero Index.doubles (lit< tt)
 
   characters : Stands f (view f .held) Tag.characters
   unfolding tagAt lineAt table
-  characters = stands f zero 19 (lit< tt)
+  characters = stands f zero Index.characters (lit< tt)
 
   runs-are : runs (view f .head .big) (Part Tag.keyDirectory) (Part Tag.doubles) (Part Tag.characters) ≡ runsOf (view f)
   unfolding runsOf

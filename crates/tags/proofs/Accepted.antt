@@ -20,12 +20,15 @@ use Rattle.paper.specs.Judge.{viewAt, entriesIn, dirRun, countIn}
 use Rattle.paper.proofs.Laws.{run-length-in, or-same}
 use Rattle.paper.proofs.First.{kept-first}
 use Rattle.paper.proofs.Kept.{among}
+use Rattle.tags.specs.Index
 use Rattle.tags.specs.Slots.{lineAt, tagAt, offsetsSlot, byteCountsSlot}
 use Rattle.tags.specs.Numbers.{numbersOf, bitsOf}
 use Rattle.paper.specs.Judge.{tableRules}
-use Rattle.tags.specs.Tagging.{entriesAt, heldAt, viewOf, taggedBy, taggedOf, Ready}
+use Rattle.lines.specs.Ready.{entriesAt, heldAt, Ready}
+use Rattle.lines.proofs.Slots.{Slot}
+use Rattle.tags.specs.Tagging.{viewOf, taggedBy, taggedOf}
 use Rattle.tags.specs.declared.Tagged.{Tagged}
-use Rattle.tags.proofs.Slots.{Slot, slot}
+use Rattle.tags.proofs.Slots.{slot-at}
 use Rattle.tags.proofs.Rules.{Lined, lined, needed-lined, no-strip, no-tile, eleven-is, counted-is, twelve-is}
 use Rattle.tags.proofs.Fetched.{kind-is, typ-is, count-is}
 use Rattle.tags.proofs.Kept.{Allowed, eleven-gives, Agreed, twelve-gives}
@@ -34,7 +37,7 @@ use Rattle.tags.proofs.Kept.{Allowed, eleven-gives, Agreed, twelve-give
 
 -- the view is that of the directory at a place, where c is its count
 pub view-is : (f : List ℕ) (big : Bool) (at c : ℕ) → c ≡ countIn f (record { size = length f; big = big; at = at })
-    → viewOf f big at c ≡ viewAt table f (record { size = length f; big = big; at = at })
+    → viewOf table f big at c ≡ viewAt table f (record { size = length f; big = big; at = at })
 unfolding viewOf heldAt entriesAt viewAt entriesIn dirRun
 view-is f big at c e = rw e
 
@@ -95,65 +98,65 @@ module _ {f : List ℕ} {hs : List Held} {typs counts starts lens : List ℕ} {t
 -- ---- verdict 0
 
 pub record Accepted (f : List ℕ) (big : Bool) (at c : ℕ) (typs counts starts lens : List ℕ) : Type 0 where
-  pub twenty-seven : rule27 (heldAt f big at c) ≡ kept
-  pub nine : rule9 table (heldAt f big at c) ≡ kept
-  pub ten : rule10 table (heldAt f big at c) ≡ kept
-  pub eleven : rule11 table big (heldAt f big at c) ≡ kept
-  pub twelve : rule12 big (heldAt f big at c) ≡ kept
-  pub width-is : taggedOf (viewOf f big at c) .width ≡ valueOf big Tag.width (heldAt f big at c)
-  pub width-low : 1 ≤ valueOf big Tag.width (heldAt f big at c)
-  pub width-high : valueOf big Tag.width (heldAt f big at c) ≤ 1000000
-  pub length-is : taggedOf (viewOf f big at c) .length ≡ valueOf big Tag.length (heldAt f big at c)
-  pub length-low : 1 ≤ valueOf big Tag.length (heldAt f big at c)
-  pub length-high : valueOf big Tag.length (heldAt f big at c) ≤ 1000000
-  pub tiled-is : taggedOf (viewOf f big at c) .tiled ≡ tiled (heldAt f big at c)
-  pub offsets : PieceColumn f (heldAt f big at c) typs counts starts lens
-      (pieceCount big (heldAt f big at c)) (offsetsTag (heldAt f big at c)) (offsetsSlot (tiled (heldAt f big at c)))
-  pub byte-counts : PieceColumn f (heldAt f big at c) typs counts starts lens
-      (pieceCount big (heldAt f big at c)) (byteCountsTag (heldAt f big at c)) (byteCountsSlot (tiled (heldAt f big at c)))
-  pub no-offsets : getD lens (offsetsSlot (not (tiled (heldAt f big at c)))) 0 ≡ 0
-  pub no-byte-counts : getD lens (byteCountsSlot (not (tiled (heldAt f big at c)))) 0 ≡ 0
-  pub scale : FixedColumn f (heldAt f big at c) typs counts starts lens 24 33550 14
-  pub tiepoint : FixedColumn f (heldAt f big at c) typs counts starts lens 48 33922 15
-  pub matrix : FixedColumn f (heldAt f big at c) typs counts starts lens 128 34264 16
-  pub directory : Slot f (heldAt f big at c) typs counts starts lens 34735 17
-  pub doubles : Slot f (heldAt f big at c) typs counts starts lens 34736 18
-  pub characters : Slot f (heldAt f big at c) typs counts starts lens 34737 19
-  pub metadata : Slot f (heldAt f big at c) typs counts starts lens 50909 20
+  pub twenty-seven : rule27 (heldAt table f big at c) ≡ kept
+  pub nine : rule9 table (heldAt table f big at c) ≡ kept
+  pub ten : rule10 table (heldAt table f big at c) ≡ kept
+  pub eleven : rule11 table big (heldAt table f big at c) ≡ kept
+  pub twelve : rule12 big (heldAt table f big at c) ≡ kept
+  pub width-is : taggedOf (viewOf table f big at c) .width ≡ valueOf big Tag.width (heldAt table f big at c)
+  pub width-low : 1 ≤ valueOf big Tag.width (heldAt table f big at c)
+  pub width-high : valueOf big Tag.width (heldAt table f big at c) ≤ 1000000
+  pub length-is : taggedOf (viewOf table f big at c) .length ≡ valueOf big Tag.length (heldAt table f big at c)
+  pub length-low : 1 ≤ valueOf big Tag.length (heldAt table f big at c)
+  pub length-high : valueOf big Tag.length (heldAt table f big at c) ≤ 1000000
+  pub tiled-is : taggedOf (viewOf table f big at c) .tiled ≡ tiled (heldAt table f big at c)
+  pub offsets : PieceColumn f (heldAt table f big at c) typs counts starts lens
+      (pieceCount big (heldAt table f big at c)) (offsetsTag (heldAt table f big at c)) (offsetsSlot (tiled (heldAt table f big at c)))
+  pub byte-counts : PieceColumn f (heldAt table f big at c) typs counts starts lens
+      (pieceCount big (heldAt table f big at c)) (byteCountsTag (heldAt table f big at c)) (byteCountsSlot (tiled (heldAt table f big at c)))
+  pub no-offsets : getD lens (offsetsSlot (not (tiled (heldAt table f big at c)))) 0 ≡ 0
+  pub no-byte-counts : getD lens (byteCountsSlot (not (tiled (heldAt table f big at c)))) 0 ≡ 0
+  pub scale : FixedColumn f (heldAt table f big at c) typs counts starts lens 24 Tag.scale 14
+  pub tiepoint : FixedColumn f (heldAt table f big at c) typs counts starts lens 48 Tag.tiepoint 15
+  pub matrix : FixedColumn f (heldAt table f big at c) typs counts starts lens 128 Tag.matrix 16
+  pub directory : Slot f (heldAt table f big at c) typs counts starts lens Tag.keyDirectory Index.keyDirectory
+  pub doubles : Slot f (heldAt table f big at c) typs counts starts lens Tag.doubles Index.doubles
+  pub characters : Slot f (heldAt table f big at c) typs counts starts lens Tag.characters Index.characters
+  pub metadata : Slot f (heldAt table f big at c) typs counts starts lens Tag.metadata Index.metadata
 
-module _ (f : List ℕ) (big : Bool) (at c : ℕ) (typs counts starts lens : List ℕ) (r : Ready f big at c typs counts starts lens)
-    (zero : taggedOf (viewOf f big at c) .verdict .number ≡ 0) where
+module _ (f : List ℕ) (big : Bool) (at c : ℕ) (typs counts starts lens : List ℕ) (r : Ready table f big at c typs counts starts lens)
+    (zero : taggedOf (viewOf table f big at c) .verdict .number ≡ 0) where
   abbrev Hs : List Held
-  Hs = heldAt f big at c
+  Hs = heldAt table f big at c
 
   abbrev Told : Tagged
-  Told = taggedOf (viewOf f big at c)
+  Told = taggedOf (viewOf table f big at c)
 
-  rules-zero : first (tableRules (viewOf f big at c)) .number ≡ 0
+  rules-zero : first (tableRules (viewOf table f big at c)) .number ≡ 0
   unfolding taggedOf taggedBy
   rules-zero = zero
 
   mixed-kept : rule27 Hs ≡ kept
   unfolding tableRules viewOf all
-  mixed-kept = kept-first (tableRules (viewOf f big at c)) refl rules-zero 0
+  mixed-kept = kept-first (tableRules (viewOf table f big at c)) refl rules-zero 0
 
   nine-kept : rule9 table Hs ≡ kept
   unfolding tableRules viewOf all
-  nine-kept = kept-first (tableRules (viewOf f big at c)) refl rules-zero 1
+  nine-kept = kept-first (tableRules (viewOf table f big at c)) refl rules-zero 1
 
   ten-kept : rule10 table Hs ≡ kept
   unfolding tableRules viewOf all
-  ten-kept = kept-first (tableRules (viewOf f big at c)) refl rules-zero 2
+  ten-kept = kept-first (tableRules (viewOf table f big at c)) refl rules-zero 2
 
   eleven-kept : rule11 table big Hs ≡ kept
   unfolding tableRules viewOf all
-  eleven-kept = kept-first (tableRules (viewOf f big at c)) refl rules-zero 3
+  eleven-kept = kept-first (tableRules (viewOf table f big at c)) refl rules-zero 3
 
   twelve-kept : rule12 big Hs ≡ kept
   unfolding tableRules viewOf all
-  twelve-kept = kept-first (tableRules (viewOf f big at c)) refl rules-zero 4
+  twelve-kept = kept-first (tableRules (viewOf table f big at c)) refl rules-zero 4
 
-  sides-are : (Told .width ≡ valueOf big 256 Hs) × (Told .length ≡ valueOf big 257 Hs)
+  sides-are : (Told .width ≡ valueOf big Tag.width Hs) × (Told .length ≡ valueOf big Tag.length Hs)
   unfolding taggedOf taggedBy viewOf
   sides-are = let e = eq-eqb _ 0 rules-zero in (rw e, rw e)
 
@@ -167,11 +170,11 @@ module _ (f : List ℕ) (big : Bool) (at c : ℕ) (typs counts starts lens : Lis
   agreed : Agreed (numbersOf big Hs) (tiled Hs) (countOf (offsetsTag Hs) Hs) (countOf (byteCountsTag Hs) Hs)
   agreed = twelve-gives (numbersOf big Hs) (bitsOf big Hs) (tiled Hs) _ _ _ (twelve-is big Hs ∙ twelve-kept)
 
-  here : (k : ℕ) → k < 21 → Slot f Hs typs counts starts lens (tagAt k) k
-  here = slot f big at c typs counts starts lens r
+  here : (k : ℕ) → k < Index.many → Slot f Hs typs counts starts lens (tagAt k) k
+  here = slot-at r
 
   -- a needed tag has a type of its line
-  kind-of : (k : ℕ) → k < 21 → lineAt k .needed (tiled Hs) ≡ true → eqb (getD typs k 0) (lineAt k .type) || eqb (getD typs k 0) (lineAt k .other) ≡ true
+  kind-of : (k : ℕ) → k < Index.many → lineAt k .needed (tiled Hs) ≡ true → eqb (getD typs k 0) (lineAt k .type) || eqb (getD typs k 0) (lineAt k .other) ≡ true
   kind-of k h n = kind-is (here k h) (needed-lined Hs nine-kept ten-kept k h n)
 
   abbrev Column : ℕ → ℕ → Type 0
@@ -181,37 +184,41 @@ module _ (f : List ℕ) (big : Bool) (at c : ℕ) (typs counts starts lens : Lis
   unfolding lineAt tagAt table offsetsSlot
   offsets-column = go (tiled Hs) refl (agreed .offsets-are ∙ counted-is big Hs)
     where
-      go : (b : Bool) → tiled Hs ≡ b → countOf (cond b 324 273) Hs ≡ pieceCount big Hs → Column (cond b 324 273) (cond b 12 5)
-      go true e q = piece-column (here 12 (lit< tt)) (rw (or-same (eqb (getD typs 12 0) 4) (kind-of 12 (lit< tt) e), or-true (eqb (getD typs 12 0) 3))) q
-      go false e q = piece-column (here 5 (lit< tt)) (kind-of 5 (lit< tt) (ap not e)) q
+      go : (b : Bool) → tiled Hs ≡ b → countOf (cond b Tag.tileOffsets Tag.stripOffsets) Hs ≡ pieceCount big Hs
+          → Column (cond b Tag.tileOffsets Tag.stripOffsets) (cond b Index.tileOffsets Index.stripOffsets)
+      go true e q =
+          let typ = getD typs Index.tileOffsets 0 in
+          piece-column (here Index.tileOffsets (lit< tt)) (rw (or-same (eqb typ 4) (kind-of Index.tileOffsets (lit< tt) e), or-true (eqb typ 3))) q
+      go false e q = piece-column (here Index.stripOffsets (lit< tt)) (kind-of Index.stripOffsets (lit< tt) (ap not e)) q
 
   byte-counts-column : Column (byteCountsTag Hs) (byteCountsSlot (tiled Hs))
   unfolding lineAt tagAt table byteCountsSlot
   byte-counts-column = go (tiled Hs) refl (agreed .byte-counts-are ∙ counted-is big Hs)
     where
-      go : (b : Bool) → tiled Hs ≡ b → countOf (cond b 325 279) Hs ≡ pieceCount big Hs → Column (cond b 325 279) (cond b 13 8)
-      go true e q = piece-column (here 13 (lit< tt)) (kind-of 13 (lit< tt) e) q
-      go false e q = piece-column (here 8 (lit< tt)) (kind-of 8 (lit< tt) (ap not e)) q
+      go : (b : Bool) → tiled Hs ≡ b → countOf (cond b Tag.tileByteCounts Tag.stripByteCounts) Hs ≡ pieceCount big Hs
+          → Column (cond b Tag.tileByteCounts Tag.stripByteCounts) (cond b Index.tileByteCounts Index.stripByteCounts)
+      go true e q = piece-column (here Index.tileByteCounts (lit< tt)) (kind-of Index.tileByteCounts (lit< tt) e) q
+      go false e q = piece-column (here Index.stripByteCounts (lit< tt)) (kind-of Index.stripByteCounts (lit< tt) (ap not e)) q
 
   -- a tag of the other family is absent
-  none-at : (k : ℕ) → k < 21 → has (tagAt k) Hs ≡ false → getD lens k 0 ≡ 0
+  none-at : (k : ℕ) → k < Index.many → has (tagAt k) Hs ≡ false → getD lens k 0 ≡ 0
   none-at k h n = here k h .none (eqb-true _ 0 (sym (Bool·not-not _) ∙ ap not (sym (here k h .present) ∙ n)))
 
   no-offsets-column : getD lens (offsetsSlot (not (tiled Hs))) 0 ≡ 0
   unfolding lineAt tagAt table offsetsSlot among some
   no-offsets-column = go (tiled Hs) refl
     where
-      go : (b : Bool) → tiled Hs ≡ b → getD lens (cond (not b) 12 5) 0 ≡ 0
-      go true e = none-at 5 (lit< tt) (no-strip Hs mixed-kept e 273 refl)
-      go false e = none-at 12 (lit< tt) (no-tile Hs mixed-kept e 324 refl)
+      go : (b : Bool) → tiled Hs ≡ b → getD lens (cond (not b) Index.tileOffsets Index.stripOffsets) 0 ≡ 0
+      go true e = none-at Index.stripOffsets (lit< tt) (no-strip Hs mixed-kept e Tag.stripOffsets refl)
+      go false e = none-at Index.tileOffsets (lit< tt) (no-tile Hs mixed-kept e Tag.tileOffsets refl)
 
   no-byte-counts-column : getD lens (byteCountsSlot (not (tiled Hs))) 0 ≡ 0
   unfolding lineAt tagAt table byteCountsSlot among some
   no-byte-counts-column = go (tiled Hs) refl
     where
-      go : (b : Bool) → tiled Hs ≡ b → getD lens (cond (not b) 13 8) 0 ≡ 0
-      go true e = none-at 8 (lit< tt) (no-strip Hs mixed-kept e 279 refl)
-      go false e = none-at 13 (lit< tt) (no-tile Hs mixed-kept e 325 refl)
+      go : (b : Bool) → tiled Hs ≡ b → getD lens (cond (not b) Index.tileByteCounts Index.stripByteCounts) 0 ≡ 0
+      go true e = none-at Index.stripByteCounts (lit< tt) (no-strip Hs mixed-kept e Tag.stripByteCounts refl)
+      go false e = none-at Index.tileByteCounts (lit< tt) (no-tile Hs mixed-kept e Tag.tileByteCounts refl)
 
   pub accepted : Accepted f big at c typs counts starts lens
   unfolding numbersOf lineAt tagAt table sizeOf
@@ -234,11 +241,11 @@ module _ (f : List ℕ) (big : Bool) (at c : ℕ) (typs counts starts lens : Lis
         byte-counts = byte-counts-column;
         no-offsets = no-offsets-column;
         no-byte-counts = no-byte-counts-column;
-        scale = fixed-column (here 14 (lit< tt)) (lined Hs ten-kept 14 (lit< tt)) refl;
-        tiepoint = fixed-column (here 15 (lit< tt)) (lined Hs ten-kept 15 (lit< tt)) refl;
-        matrix = fixed-column (here 16 (lit< tt)) (lined Hs ten-kept 16 (lit< tt)) refl;
-        directory = here 17 (lit< tt);
-        doubles = here 18 (lit< tt);
-        characters = here 19 (lit< tt);
-        metadata = here 20 (lit< tt);
+        scale = fixed-column (here Index.scale (lit< tt)) (lined Hs ten-kept Index.scale (lit< tt)) refl;
+        tiepoint = fixed-column (here Index.tiepoint (lit< tt)) (lined Hs ten-kept Index.tiepoint (lit< tt)) refl;
+        matrix = fixed-column (here Index.matrix (lit< tt)) (lined Hs ten-kept Index.matrix (lit< tt)) refl;
+        directory = here Index.keyDirectory (lit< tt);
+        doubles = here Index.doubles (lit< tt);
+        characters = here Index.characters (lit< tt);
+        metadata = here Index.metadata (lit< tt);
       }

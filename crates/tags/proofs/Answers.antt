@@ -1,6 +1,6 @@
 -- One law for each answer of rules 27 and 9 to 12. Assumes nothing.
 use Prim.Native.Nat.{ℕ, _+_, _-_, _*_, _≤_, _<_}
-use mathlib.Core.Path.{_≡_, refl, sym, ap, ap₂, _∙_}
+use mathlib.Core.Path.{_≡_, sym, ap, ap₂, _∙_}
 use mathlib.Core.Bool.{Bool, true, false, cond, not, _&&_, _||_}
 use mathlib.Core.List.{List, [], _∷_}
 use native.Mathlib.Nat.{add-sub-cancel-left}
@@ -13,51 +13,39 @@ use Rattle.paper.specs.Tests.{some}
 use Rattle.paper.specs.declared.Outcome.{Outcome}
 use Rattle.paper.specs.declared.Outcome.the-variants.{Kept as kept, Broken as broken}
 use Rattle.paper.specs.Tags.{table, Held, countOf, tiled, offsetsTag, byteCountsTag, fitsLine, rule27, rule9, rule10, rule11, rule12}
-use Rattle.paper.proofs.Laws.{or-false, run-length-in}
+use Rattle.paper.proofs.Laws.{run-length-in}
+use Rattle.tags.specs.Index
 use Rattle.tags.specs.declared.Numbers.{Numbers}
 use Rattle.tags.specs.declared.Bits.{Bits}
 use Rattle.tags.specs.declared.Tagged.{Tagged}
-use Rattle.tags.specs.Slots.{lineAt, tagAt, stripSlots, tileSlots, someAt, offsetsSlot, byteCountsSlot, nineFrom, tenFrom, someMisfit, Chosen}
+use Rattle.lines.specs.Rows.{nineOf, tenOf, someMisfit}
+use Rattle.lines.specs.Lined.{says, Lined}
+use Rattle.lines.specs.Ready.{entriesAt, heldAt, Ready, Behind}
+use Rattle.lines.proofs.Ruled.{nine-is, ten-is, later-misfits}
+use Rattle.tags.specs.Slots.{lineAt, tagAt, stripSlots, tileSlots, someAt, offsetsSlot, byteCountsSlot}
 use Rattle.tags.specs.Numbers.{numbersOf, bitsOf, bitsIn, numbersIn, FourBytes, elevenOf, Countable, twelveOf}
 use Rattle.paper.specs.Judge.{tableRules}
+use Rattle.paper.specs.Tag
 use Rattle.layout.specs.Repeats.{laterTexts}
 use Rattle.layout.specs.declared.Further.{Further}
 use Rattle.layout.proofs.Repeats.{FurtherHolds, further-holds}
-use Rattle.tags.specs.Tagging.{entriesAt, heldAt, viewOf, taggedBy, taggedOf, Ready, Behind, Fitting}
-use Rattle.tags.proofs.Slots.{strips-are, tiles-are, nine-is, ten-is}
+use Rattle.tags.specs.Tagging.{viewOf, taggedBy, taggedOf, Fitting}
+use Rattle.tags.proofs.Slots.{strips-are, tiles-are}
 use Rattle.tags.proofs.Rules.{eleven-is, twelve-is}
 use Rattle.tags.proofs.Fetched.{slotAt, numbers-are, bits-are}
 use Rattle.tags.proofs.Kept.{eleven-gives}
-use Rattle.tags.proofs.Later.{later-misfits}
 
 abbrev pub refusedAs : ℕ → ℕ → Tagged
 refusedAs k p = record { verdict = verdict k p; width = 0; length = 0; tiled = false }
 
--- where rule 27 is kept, no tag of the other family is present
-none-else : (starts : List ℕ) (s t m : Bool) → s ≡ someAt stripSlots starts → t ≡ someAt tileSlots starts → m ≡ (s && t) || (not s && not t) → m ≡ false
-    → someAt (cond t stripSlots tileSlots) starts ≡ false
-none-else starts s t m is-s is-t is-m h = go t is-t (sym is-m ∙ h)
-  where
-    go : (v : Bool) → v ≡ someAt tileSlots starts → (s && v) || (not s && not v) ≡ false → someAt (cond v stripSlots tileSlots) starts ≡ false
-    go true e k = sym is-s ∙ first-false s (or-false (s && true) _ k .0)
-      where
-        first-false : (b : Bool) → b && true ≡ false → b ≡ false
-        first-false true p = p
-        first-false false p = refl
-    go false e k = sym e
-
-pub chosen : {starts : List ℕ} {s t m : Bool} {o : Outcome} → s ≡ someAt stripSlots starts → t ≡ someAt tileSlots starts
-    → m ≡ (s && t) || (not s && not t) → m ≡ false → o ≡ nineFrom 0 t starts → o ≡ kept → Chosen t starts
-chosen is-s is-t is-m alike is-o h = record { none-else = none-else _ _ _ _ is-s is-t is-m alike; nine = sym is-o ∙ h }
-
 -- the further entries of 50909 lie in the file
-pub later-holds : {f : List ℕ} {big : Bool} {at c : ℕ} {typs counts starts lens : List ℕ} {g : Further} → Ready f big at c typs counts starts lens
+pub later-holds : {f : List ℕ} {big : Bool} {at c : ℕ} {typs counts starts lens : List ℕ} {g : Further} → Ready table f big at c typs counts starts lens
     → Behind f big at c g → FurtherHolds f big at c g
 unfolding entriesAt
 later-holds {f} {big} {at} {c} r w = further-holds f big at c (r .whole) (r .few) (w .six) (w .is)
 
 -- what the test of them asks
-pub later-lent : {f : List ℕ} {big : Bool} {at c : ℕ} {typs counts starts lens : List ℕ} {g : Further} → Ready f big at c typs counts starts lens
+pub later-lent : {f : List ℕ} {big : Bool} {at c : ℕ} {typs counts starts lens : List ℕ} {g : Further} → Ready table f big at c typs counts starts lens
     → Behind f big at c g → {later : List ℕ} → later ≡ run f (g .start) (12 * g .many) → (12 * g .many ≤ length later) × (g .many ≤ 1024)
 later-lent {f} {g = g} r w e =
     let h = later-holds r w in
@@ -65,66 +53,71 @@ later-lent {f} {g = g} r w e =
     (omega arith, h .few)
 
 -- which families are present, whether that breaks rule 27, and then what rules 9 and 10 say
-module _ {f : List ℕ} {big : Bool} {at c : ℕ} {typs counts starts lens : List ℕ} (r : Ready f big at c typs counts starts lens)
+module _ {f : List ℕ} {big : Bool} {at c : ℕ} {typs counts starts lens : List ℕ} (r : Ready table f big at c typs counts starts lens)
     {s t m : Bool} (is-s : s ≡ someAt stripSlots starts) (is-t : t ≡ someAt tileSlots starts) (is-m : m ≡ (s && t) || (not s && not t)) where
-  t-same : t ≡ tiled (heldAt f big at c)
-  t-same = is-t ∙ tiles-are f big at c typs counts starts lens r
+  t-same : t ≡ tiled (heldAt table f big at c)
+  t-same = is-t ∙ tiles-are r
 
-  mixed-same : rule27 (heldAt f big at c) ≡ breaks m 0
+  mixed-same : rule27 (heldAt table f big at c) ≡ breaks m 0
   unfolding rule27
   mixed-same =
-      let s-same = is-s ∙ strips-are f big at c typs counts starts lens r in
+      let s-same = is-s ∙ strips-are r in
       sym (ap (λ (x : Bool). breaks x 0) (is-m ∙ ap₂ (λ (x y : Bool). (x && y) || (not x && not y)) s-same t-same))
 
-  pub refused-mixed : {x : Tagged} → m ≡ true → x ≡ refusedAs 27 0 → x ≡ taggedOf (viewOf f big at c)
+  pub refused-mixed : {x : Tagged} → m ≡ true → x ≡ refusedAs 27 0 → x ≡ taggedOf (viewOf table f big at c)
   unfolding taggedOf taggedBy viewOf tableRules first
   refused-mixed h e = rw (e, mixed-same, h)
 
-  module _ (alike : m ≡ false) {o : Outcome} (is-o : o ≡ nineFrom 0 t starts) where
-    mixed-kept : rule27 (heldAt f big at c) ≡ kept
+  module _ (alike : m ≡ false) {rows : List (List ℕ)} (l : Lined rows table) {o : Outcome} (is-o : o ≡ nineOf rows t starts) where
+    mixed-kept : rule27 (heldAt table f big at c) ≡ kept
     mixed-kept = mixed-same ∙ ap (λ (b : Bool). breaks b 0) alike
 
-    nine-same : o ≡ rule9 table (heldAt f big at c)
-    nine-same = is-o ∙ ap (λ (b : Bool). nineFrom 0 b starts) t-same ∙ nine-is f big at c typs counts starts lens r
+    nine-same : o ≡ rule9 table (heldAt table f big at c)
+    nine-same = is-o ∙ ap (λ (b : Bool). nineOf rows b starts) t-same ∙ nine-is r l
 
-    pub refused-nine : {x : Tagged} {p : ℕ} → o ≡ broken p → x ≡ refusedAs 9 p → x ≡ taggedOf (viewOf f big at c)
+    pub refused-nine : {x : Tagged} {p : ℕ} → o ≡ broken p → x ≡ refusedAs 9 p → x ≡ taggedOf (viewOf table f big at c)
     unfolding taggedOf taggedBy viewOf tableRules first
     refused-nine h e = rw (e, mixed-kept, ← nine-same, h)
 
-    module _ (h : o ≡ kept) {u : Outcome} (is-u : u ≡ tenFrom 0 typs counts starts) {g : Further} (w : Behind f big at c g) where
+    module _ (h : o ≡ kept) {u : Outcome} (is-u : u ≡ tenOf rows typs counts starts) {g : Further} (w : Behind f big at c g) where
       -- the entries of 50909 behind the first
       abbrev Misfit : Bool
-      Misfit = some (λ e. not (fitsLine (lineAt 20) e)) (laterTexts (entriesAt f big at c))
+      Misfit = some (λ e. not (fitsLine (lineAt Index.metadata) e)) (laterTexts (entriesAt f big at c))
 
-      ten-same : firstOf (u ∷ breaks Misfit 50909 ∷ []) ≡ rule10 table (heldAt f big at c)
-      ten-same = ap (λ (x : Outcome). firstOf (x ∷ breaks Misfit 50909 ∷ [])) is-u ∙ ten-is f big at c typs counts starts lens r (w .six)
+      ten-same : firstOf (u ∷ breaks Misfit Tag.metadata ∷ []) ≡ rule10 table (heldAt table f big at c)
+      unfolding lineAt table
+      ten-same = ap (λ (x : Outcome). firstOf (x ∷ breaks Misfit Tag.metadata ∷ [])) is-u ∙ ten-is r (w .six) l
 
-      pub refused-ten : {x : Tagged} {p : ℕ} → u ≡ broken p → x ≡ refusedAs 10 p → x ≡ taggedOf (viewOf f big at c)
+      pub refused-ten : {x : Tagged} {p : ℕ} → u ≡ broken p → x ≡ refusedAs 10 p → x ≡ taggedOf (viewOf table f big at c)
       unfolding taggedOf taggedBy viewOf tableRules first firstOf
       refused-ten k e = rw (e, mixed-kept, ← nine-same, h, ← ten-same, k)
 
-      module _ (k : u ≡ kept) {later : List ℕ} (is-later : later ≡ run f (g .start) (12 * g .many)) {n : Bool} (is-n : n ≡ someMisfit big later 0 (g .many)) where
+      module _ (k : u ≡ kept) {later : List ℕ} (is-later : later ≡ run f (g .start) (12 * g .many)) (x : List ℕ) (said : says x (lineAt Index.metadata) ≡ true)
+          {n : Bool} (is-n : n ≡ someMisfit x big later 0 (g .many)) where
         misfit-same : n ≡ Misfit
         unfolding entriesAt
-        misfit-same = is-n ∙ ap (λ (s : List ℕ). someMisfit big s 0 (g .many)) is-later ∙ later-misfits big (g .start) (g .many) (run f (g .start) (12 * g .many)) (later-holds r w .are)
+        misfit-same =
+            is-n
+            ∙ ap (λ (s : List ℕ). someMisfit x big s 0 (g .many)) is-later
+            ∙ later-misfits x (lineAt Index.metadata) said big (g .start) (g .many) (run f (g .start) (12 * g .many)) (later-holds r w .are)
 
-        pub refused-later : {x : Tagged} → n ≡ true → x ≡ refusedAs 10 50909 → x ≡ taggedOf (viewOf f big at c)
+        pub refused-later : {x : Tagged} → n ≡ true → x ≡ refusedAs 10 Tag.metadata → x ≡ taggedOf (viewOf table f big at c)
         unfolding taggedOf taggedBy viewOf tableRules first firstOf
         refused-later b e = rw (e, mixed-kept, ← nine-same, h, ← ten-same, k, ← misfit-same, b)
 
         pub fitting : n ≡ false → Fitting f big at c t typs counts starts lens
         unfolding firstOf
         fitting b =
-            let ten : rule10 table (heldAt f big at c) ≡ kept = sym ten-same ∙ rw (k, ← misfit-same, b) in
+            let ten : rule10 table (heldAt table f big at c) ≡ kept = sym ten-same ∙ rw (k, ← misfit-same, b) in
             record { ready = r; tiled-is = t-same; twenty-seven = mixed-kept; nine = sym nine-same ∙ h; ten = ten }
 
 -- the numbers and the bits that were fetched, and what rule 11 says of them
 module _ {f : List ℕ} {big : Bool} {at c : ℕ} {t : Bool} {typs counts starts lens : List ℕ} (w : Fitting f big at c t typs counts starts lens)
-    {n : Numbers} (is-n : n ≡ numbersIn big f t typs starts) (small : FourBytes n) {b : Bits}
-    (is-b : b ≡ bitsIn big (getD counts 2 0) (run f (getD starts 2 0) (getD starts 2 0 + getD lens 2 0 - getD starts 2 0)))
+    {n : Numbers} (is-n : n ≡ numbersIn big f t typs starts) (small : FourBytes n) {j : ℕ} (is-j : j ≡ getD counts Index.bits 0) {b : Bits}
+    (is-b : b ≡ bitsIn big j (run f (getD starts Index.bits 0) (getD starts Index.bits 0 + getD lens Index.bits 0 - getD starts Index.bits 0)))
     {o : Outcome} (is-o : o ≡ elevenOf n (b .allowed)) where
   abbrev Hs : List Held
-  Hs = heldAt f big at c
+  Hs = heldAt table f big at c
 
   n-same : n ≡ numbersOf big Hs
   n-same = is-n ∙ numbers-are w
@@ -132,7 +125,7 @@ module _ {f : List ℕ} {big : Bool} {at c : ℕ} {t : Bool} {typs counts starts
   b-same : b ≡ bitsOf big Hs
   b-same =
       is-b
-      ∙ ap (λ (l : ℕ). bitsIn big (getD counts 2 0) (run f (getD starts 2 0) l)) (add-sub-cancel-left (getD starts 2 0) (getD lens 2 0))
+      ∙ ap₂ (λ (k l : ℕ). bitsIn big k (run f (getD starts Index.bits 0) l)) is-j (add-sub-cancel-left (getD starts Index.bits 0) (getD lens Index.bits 0))
       ∙ bits-are w
 
   eleven-same : o ≡ rule11 table big Hs
@@ -141,7 +134,7 @@ module _ {f : List ℕ} {big : Bool} {at c : ℕ} {t : Bool} {typs counts starts
       ∙ ap₂ (λ (m : Numbers) (x : Bits). elevenOf m (x .allowed)) n-same b-same
       ∙ eleven-is big Hs (w .twenty-seven) (w .nine) (w .ten)
 
-  pub refused-eleven : {x : Tagged} {p : ℕ} → o ≡ broken p → x ≡ refusedAs 11 p → x ≡ taggedOf (viewOf f big at c)
+  pub refused-eleven : {x : Tagged} {p : ℕ} → o ≡ broken p → x ≡ refusedAs 11 p → x ≡ taggedOf (viewOf table f big at c)
   unfolding taggedOf taggedBy viewOf tableRules first
   refused-eleven h e = rw (e, w .twenty-seven, w .nine, w .ten, ← eleven-same, h)
 
@@ -159,38 +152,38 @@ module _ {f : List ℕ} {big : Bool} {at c : ℕ} {t : Bool} {typs counts starts
         }
 
     -- the counts of the offsets, in slot x, and of the byte counts, in slot y
-    module _ {x y : ℕ} (is-x : x ≡ offsetsSlot t) (is-y : y ≡ byteCountsSlot t) {u : Outcome}
-        (is-u : u ≡ twelveOf n b t (getD counts 2 0) (getD counts x 0) (getD counts y 0)) where
-      count-at : (k : ℕ) → k < 21 → getD counts k 0 ≡ countOf (tagAt k) Hs
+    module _ {x y : ℕ} (is-x : x ≡ offsetsSlot t) (is-y : y ≡ byteCountsSlot t) {i k l : ℕ} (is-i : i ≡ getD counts Index.bits 0) (is-k : k ≡ getD counts x 0)
+        (is-l : l ≡ getD counts y 0) {u : Outcome} (is-u : u ≡ twelveOf n b t i k l) where
+      count-at : (k : ℕ) → k < Index.many → getD counts k 0 ≡ countOf (tagAt k) Hs
       count-at k l = sym (slotAt w k l .count)
 
       offsets-same : getD counts x 0 ≡ countOf (offsetsTag Hs) Hs
       unfolding tagAt lineAt table offsetsSlot
       offsets-same = ap (λ (k : ℕ). getD counts k 0) is-x ∙ go t (w .tiled-is)
         where
-          go : (v : Bool) → v ≡ tiled Hs → getD counts (cond v 12 5) 0 ≡ countOf (offsetsTag Hs) Hs
-          go true e = rw (← e) (count-at 12 (lit< tt))
-          go false e = rw (← e) (count-at 5 (lit< tt))
+          go : (v : Bool) → v ≡ tiled Hs → getD counts (cond v Index.tileOffsets Index.stripOffsets) 0 ≡ countOf (offsetsTag Hs) Hs
+          go true e = rw (← e) (count-at Index.tileOffsets (lit< tt))
+          go false e = rw (← e) (count-at Index.stripOffsets (lit< tt))
 
       byte-counts-same : getD counts y 0 ≡ countOf (byteCountsTag Hs) Hs
       unfolding tagAt lineAt table byteCountsSlot
       byte-counts-same = ap (λ (k : ℕ). getD counts k 0) is-y ∙ go t (w .tiled-is)
         where
-          go : (v : Bool) → v ≡ tiled Hs → getD counts (cond v 13 8) 0 ≡ countOf (byteCountsTag Hs) Hs
-          go true e = rw (← e) (count-at 13 (lit< tt))
-          go false e = rw (← e) (count-at 8 (lit< tt))
+          go : (v : Bool) → v ≡ tiled Hs → getD counts (cond v Index.tileByteCounts Index.stripByteCounts) 0 ≡ countOf (byteCountsTag Hs) Hs
+          go true e = rw (← e) (count-at Index.tileByteCounts (lit< tt))
+          go false e = rw (← e) (count-at Index.stripByteCounts (lit< tt))
 
       twelve-same : u ≡ rule12 big Hs
       unfolding tagAt lineAt table
       twelve-same =
           is-u
-          ∙ (λ i. twelveOf (n-same i) (b-same i) (w .tiled-is i) (count-at 2 (lit< tt) i) (offsets-same i) (byte-counts-same i))
+          ∙ (λ z. twelveOf (n-same z) (b-same z) (w .tiled-is z) ((is-i ∙ count-at Index.bits (lit< tt)) z) ((is-k ∙ offsets-same) z) ((is-l ∙ byte-counts-same) z))
           ∙ twelve-is big Hs
 
-      pub refused-twelve : {z : Tagged} {p : ℕ} → u ≡ broken p → z ≡ refusedAs 12 p → z ≡ taggedOf (viewOf f big at c)
+      pub refused-twelve : {z : Tagged} {p : ℕ} → u ≡ broken p → z ≡ refusedAs 12 p → z ≡ taggedOf (viewOf table f big at c)
       unfolding taggedOf taggedBy viewOf tableRules first
       refused-twelve g e = rw (e, w .twenty-seven, w .nine, w .ten, ← eleven-same, h, ← twelve-same, g)
 
-      pub accepted : u ≡ kept → record { verdict = verdict 0 0; width = n .width; length = n .length; tiled = t } ≡ taggedOf (viewOf f big at c)
+      pub accepted : u ≡ kept → record { verdict = verdict 0 0; width = n .width; length = n .length; tiled = t } ≡ taggedOf (viewOf table f big at c)
       unfolding taggedOf taggedBy viewOf tableRules first numbersOf
       accepted g = rw (w .twenty-seven, w .nine, w .ten, ← eleven-same, h, ← twelve-same, g, n-same, w .tiled-is)

@@ -11,12 +11,16 @@ use borrow.Author.Tests.{not-true, eqb-true}
 use Rattle.paper.specs.Bytes.{run}
 use Rattle.paper.specs.Layout.{sizeOf}
 use Rattle.paper.specs.Tags.{table, Held, find, valueOf, valuesOf, tiled}
+use Rattle.paper.specs.Tag
 use Rattle.paper.proofs.Laws.{or-same, run-length-in}
+use Rattle.tags.specs.Index
 use Rattle.tags.specs.declared.Numbers.{Numbers}
 use Rattle.tags.specs.Slots.{lineAt, tagAt}
 use Rattle.tags.specs.Numbers.{numbersOf, bitsOf, bitsIn, shortIn, numberIn, numberIf, Single, SingleIf, numbersIn, Readable, Untiled}
-use Rattle.tags.specs.Tagging.{heldAt, Fitting}
-use Rattle.tags.proofs.Slots.{Slot, slot}
+use Rattle.lines.specs.Ready.{heldAt}
+use Rattle.lines.proofs.Slots.{Slot}
+use Rattle.tags.specs.Tagging.{Fitting}
+use Rattle.tags.proofs.Slots.{slot-at}
 use Rattle.tags.proofs.Rules.{Lined, LinedAt, lined, needed-lined}
 
 -- ---- one value
@@ -56,34 +60,34 @@ module _ {f : List ℕ} {hs : List Held} {typs counts starts lens : List ℕ} {t
 
 module _ {f : List ℕ} {big : Bool} {at c : ℕ} {t : Bool} {typs counts starts lens : List ℕ} (w : Fitting f big at c t typs counts starts lens) where
   abbrev Hs : List Held
-  Hs = heldAt f big at c
+  Hs = heldAt table f big at c
 
-  pub slotAt : (k : ℕ) → k < 21 → Slot f Hs typs counts starts lens (tagAt k) k
-  slotAt k h = slot f big at c typs counts starts lens (w .ready) k h
+  pub slotAt : (k : ℕ) → k < Index.many → Slot f Hs typs counts starts lens (tagAt k) k
+  slotAt k h = slot-at (w .ready) k h
 
-  needed : (k : ℕ) → k < 21 → lineAt k .needed (tiled Hs) ≡ true → LinedAt Hs k
+  needed : (k : ℕ) → k < Index.many → lineAt k .needed (tiled Hs) ≡ true → LinedAt Hs k
   needed k h n = needed-lined Hs (w .nine) (w .ten) k h n
 
   -- a tag with one number, where it is asked for
-  if-is : (k other : ℕ) (asked : Bool) (h : k < 21) → (asked ≡ true → Lined Hs (tagAt k) (lineAt k .type) (lineAt k .other) 1 1)
+  if-is : (k other : ℕ) (asked : Bool) (h : k < Index.many) → (asked ≡ true → Lined Hs (tagAt k) (lineAt k .type) (lineAt k .other) 1 1)
       → numberIf asked big f (getD typs k 0) (getD starts k 0) other ≡ cond asked (valueOf big (tagAt k) Hs) other
   unfolding numberIf
   if-is k other true h one = number-is (slotAt k h) big (one refl)
   if-is k other false h one = refl
 
-  single-if : (k : ℕ) (asked : Bool) (h : k < 21) → (asked ≡ true → Lined Hs (tagAt k) 3 4 1 1)
+  single-if : (k : ℕ) (asked : Bool) (h : k < Index.many) → (asked ≡ true → Lined Hs (tagAt k) 3 4 1 1)
       → SingleIf asked (length f) (getD typs k 0) (getD starts k 0)
   single-if k asked h one e = single-is (slotAt k h) (one e)
 
   -- those of the family of the picture, and planar
-  in-tiles : (k : ℕ) → k < 21 → lineAt k .needed true ≡ true → t ≡ true → LinedAt Hs k
+  in-tiles : (k : ℕ) → k < Index.many → lineAt k .needed true ≡ true → t ≡ true → LinedAt Hs k
   in-tiles k h n e = needed k h (ap (λ (b : Bool). lineAt k .needed b) (sym (w .tiled-is) ∙ e) ∙ n)
 
-  in-strips : (k : ℕ) → k < 21 → lineAt k .needed false ≡ true → not t ≡ true → LinedAt Hs k
+  in-strips : (k : ℕ) → k < Index.many → lineAt k .needed false ≡ true → not t ≡ true → LinedAt Hs k
   in-strips k h n e = needed k h (ap (λ (b : Bool). lineAt k .needed b) (sym (w .tiled-is) ∙ not-true t e) ∙ n)
 
-  planar-at : not (eqb (getD starts 9 0) 0) ≡ true → LinedAt Hs 9
-  planar-at e = lined Hs (w .ten) 9 (lit< tt) (slotAt 9 (lit< tt) .present ∙ e)
+  planar-at : not (eqb (getD starts Index.planar 0) 0) ≡ true → LinedAt Hs Index.planar
+  planar-at e = lined Hs (w .ten) Index.planar (lit< tt) (slotAt Index.planar (lit< tt) .present ∙ e)
 
   -- a tag of type SHORT alone
   also-long : {t a l m : ℕ} → Lined Hs t a a l m → Lined Hs t a 4 l m
@@ -100,30 +104,30 @@ module _ {f : List ℕ} {big : Bool} {at c : ℕ} {t : Bool} {typs counts starts
   unfolding lineAt tagAt table
   readable =
       record {
-        width = single-is (slotAt 0 (lit< tt)) (needed 0 (lit< tt) refl);
-        length = single-is (slotAt 1 (lit< tt)) (needed 1 (lit< tt) refl);
-        compression = short-within (slotAt 3 (lit< tt)) (needed 3 (lit< tt) refl);
-        photometric = short-within (slotAt 4 (lit< tt)) (needed 4 (lit< tt) refl);
-        samples = short-within (slotAt 6 (lit< tt)) (needed 6 (lit< tt) refl);
-        rows = single-if 7 (not t) (lit< tt) (in-strips 7 (lit< tt) refl);
-        planar = single-if 9 _ (lit< tt) (λ e. also-long (planar-at e));
-        tilewidth = single-if 10 t (lit< tt) (in-tiles 10 (lit< tt) refl);
-        tilelength = single-if 11 t (lit< tt) (in-tiles 11 (lit< tt) refl);
+        width = single-is (slotAt Index.width (lit< tt)) (needed Index.width (lit< tt) refl);
+        length = single-is (slotAt Index.length (lit< tt)) (needed Index.length (lit< tt) refl);
+        compression = short-within (slotAt Index.compression (lit< tt)) (needed Index.compression (lit< tt) refl);
+        photometric = short-within (slotAt Index.photometric (lit< tt)) (needed Index.photometric (lit< tt) refl);
+        samples = short-within (slotAt Index.samples (lit< tt)) (needed Index.samples (lit< tt) refl);
+        rows = single-if Index.rowsPerStrip (not t) (lit< tt) (in-strips Index.rowsPerStrip (lit< tt) refl);
+        planar = single-if Index.planar _ (lit< tt) (λ e. also-long (planar-at e));
+        tilewidth = single-if Index.tileWidth t (lit< tt) (in-tiles Index.tileWidth (lit< tt) refl);
+        tilelength = single-if Index.tileLength t (lit< tt) (in-tiles Index.tileLength (lit< tt) refl);
       }
 
   pub numbers-are : numbersIn big f t typs starts ≡ numbersOf big Hs
   unfolding numbersIn numbersOf lineAt tagAt table
   numbers-are =
-      let p0 = number-is (slotAt 0 (lit< tt)) big (needed 0 (lit< tt) refl) in
-      let p1 = number-is (slotAt 1 (lit< tt)) big (needed 1 (lit< tt) refl) in
-      let p3 = short-is (slotAt 3 (lit< tt)) big (needed 3 (lit< tt) refl) in
-      let p4 = short-is (slotAt 4 (lit< tt)) big (needed 4 (lit< tt) refl) in
-      let p6 = short-is (slotAt 6 (lit< tt)) big (needed 6 (lit< tt) refl) in
+      let p0 = number-is (slotAt Index.width (lit< tt)) big (needed Index.width (lit< tt) refl) in
+      let p1 = number-is (slotAt Index.length (lit< tt)) big (needed Index.length (lit< tt) refl) in
+      let p3 = short-is (slotAt Index.compression (lit< tt)) big (needed Index.compression (lit< tt) refl) in
+      let p4 = short-is (slotAt Index.photometric (lit< tt)) big (needed Index.photometric (lit< tt) refl) in
+      let p6 = short-is (slotAt Index.samples (lit< tt)) big (needed Index.samples (lit< tt) refl) in
       let value : ℕ → ℕ = (λ (k : ℕ). valueOf big k Hs) in
-      let p7 = if-is 7 1 (not t) (lit< tt) (in-strips 7 (lit< tt) refl) ∙ ap (λ (b : Bool). cond (not b) (value 278) 1) (w .tiled-is) in
-      let p9 = if-is 9 1 (not (eqb (getD starts 9 0) 0)) (lit< tt) planar-at ∙ ap (λ (b : Bool). cond b (value 284) 1) (sym (slotAt 9 (lit< tt) .present)) in
-      let p10 = if-is 10 16 t (lit< tt) (in-tiles 10 (lit< tt) refl) ∙ ap (λ (b : Bool). cond b (value 322) 16) (w .tiled-is) in
-      let p11 = if-is 11 16 t (lit< tt) (in-tiles 11 (lit< tt) refl) ∙ ap (λ (b : Bool). cond b (value 323) 16) (w .tiled-is) in
+      let p7 = if-is Index.rowsPerStrip 1 (not t) (lit< tt) (in-strips Index.rowsPerStrip (lit< tt) refl) ∙ ap (λ (b : Bool). cond (not b) (value Tag.rowsPerStrip) 1) (w .tiled-is) in
+      let p9 = if-is Index.planar 1 (not (eqb (getD starts Index.planar 0) 0)) (lit< tt) planar-at ∙ ap (λ (b : Bool). cond b (value Tag.planar) 1) (sym (slotAt Index.planar (lit< tt) .present)) in
+      let p10 = if-is Index.tileWidth 16 t (lit< tt) (in-tiles Index.tileWidth (lit< tt) refl) ∙ ap (λ (b : Bool). cond b (value Tag.tileWidth) 16) (w .tiled-is) in
+      let p11 = if-is Index.tileLength 16 t (lit< tt) (in-tiles Index.tileLength (lit< tt) refl) ∙ ap (λ (b : Bool). cond b (value Tag.tileLength) 16) (w .tiled-is) in
       λ i. record {
         width = p0 i;
         length = p1 i;
@@ -136,34 +140,34 @@ module _ {f : List ℕ} {big : Bool} {at c : ℕ} {t : Bool} {typs counts starts
         tilelength = p11 i;
       }
 
-  bits-typ : getD typs 2 0 ≡ 3
+  bits-typ : getD typs Index.bits 0 ≡ 3
   unfolding lineAt tagAt table
-  bits-typ = typ-is (slotAt 2 (lit< tt)) (needed 2 (lit< tt) refl)
+  bits-typ = typ-is (slotAt Index.bits (lit< tt)) (needed Index.bits (lit< tt) refl)
 
-  pub bits-are : bitsIn big (getD counts 2 0) (run f (getD starts 2 0) (getD lens 2 0)) ≡ bitsOf big Hs
+  pub bits-are : bitsIn big (getD counts Index.bits 0) (run f (getD starts Index.bits 0) (getD lens Index.bits 0)) ≡ bitsOf big Hs
   unfolding bitsIn bitsOf valueOf valuesOf sizeOf lineAt tagAt table
   bits-are =
-      let s : Slot f Hs typs counts starts lens 258 2 = slotAt 2 (lit< tt) in
+      let s : Slot f Hs typs counts starts lens Tag.bits Index.bits = slotAt Index.bits (lit< tt) in
       rw (s .typ, s .count, s .bytes, bits-typ)
 
   -- the values of 258 lie in its part
-  pub bits-some : 0 < getD counts 2 0
+  pub bits-some : 0 < getD counts Index.bits 0
   unfolding lineAt tagAt table
   bits-some =
-      let s : Slot f Hs typs counts starts lens 258 2 = slotAt 2 (lit< tt) in
-      let l : Lined Hs 258 3 3 1 4294967295 = needed 2 (lit< tt) refl in
+      let s : Slot f Hs typs counts starts lens Tag.bits Index.bits = slotAt Index.bits (lit< tt) in
+      let l : Lined Hs Tag.bits 3 3 1 4294967295 = needed Index.bits (lit< tt) refl in
       omega (arith, l .low, s .count)
 
-  pub bits-end : getD starts 2 0 + getD lens 2 0 ≤ length f
+  pub bits-end : getD starts Index.bits 0 + getD lens Index.bits 0 ≤ length f
   unfolding lineAt tagAt table
-  bits-end = slotAt 2 (lit< tt) .within
+  bits-end = slotAt Index.bits (lit< tt) .within
 
-  pub bits-room : 2 * getD counts 2 0 ≤ length (run f (getD starts 2 0) (getD starts 2 0 + getD lens 2 0 - getD starts 2 0))
+  pub bits-room : 2 * getD counts Index.bits 0 ≤ length (run f (getD starts Index.bits 0) (getD starts Index.bits 0 + getD lens Index.bits 0 - getD starts Index.bits 0))
   unfolding sizeOf lineAt tagAt table
   bits-room =
-      let s : Slot f Hs typs counts starts lens 258 2 = slotAt 2 (lit< tt) in
-      let e : getD lens 2 0 ≡ 2 * getD counts 2 0 = s .size ∙ ap (λ (x : ℕ). sizeOf x * getD counts 2 0) bits-typ in
-      rw (add-sub-cancel-left (getD starts 2 0) (getD lens 2 0)) (omega (arith, run-length-in f (getD starts 2 0) (getD lens 2 0) (s .within)))
+      let s : Slot f Hs typs counts starts lens Tag.bits Index.bits = slotAt Index.bits (lit< tt) in
+      let e : getD lens Index.bits 0 ≡ 2 * getD counts Index.bits 0 = s .size ∙ ap (λ (x : ℕ). sizeOf x * getD counts Index.bits 0) bits-typ in
+      rw (add-sub-cancel-left (getD starts Index.bits 0) (getD lens Index.bits 0)) (omega (arith, run-length-in f (getD starts Index.bits 0) (getD lens Index.bits 0) (s .within)))
 
 -- the numbers of a picture of strips say nothing of tiles
 pub untiled : (big : Bool) (f : List ℕ) (t : Bool) (typs starts : List ℕ) (n : Numbers) → n ≡ numbersIn big f t typs starts → t ≡ false → Untiled n

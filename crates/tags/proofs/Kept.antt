@@ -10,6 +10,7 @@ use Rattle.paper.specs.declared.Outcome.{Outcome}
 use Rattle.paper.specs.declared.Outcome.the-variants.{Kept as kept}
 use Rattle.paper.specs.Tests.{some, between, just, allows}
 use Rattle.paper.specs.Tags.{more, sixteens}
+use Rattle.paper.specs.Tag
 use Rattle.paper.proofs.Laws.{and-eq, kept-cond}
 use Rattle.tags.specs.declared.Numbers.{Numbers}
 use Rattle.tags.specs.declared.Bits.{Bits}
@@ -38,16 +39,16 @@ pub record Allowed (n : Numbers) : Type 0 where
 pub eleven-gives : (n : Numbers) (bitsallowed : Bool) → elevenOf n bitsallowed ≡ kept → Allowed n
 unfolding elevenOf
 eleven-gives n bitsallowed h =
-    let a = kept-cond (not (allows sides (n .width))) 256 _ h in
-    let b = kept-cond (not (allows sides (n .length))) 257 _ (a .1) in
-    let d = kept-cond (not bitsallowed) 258 _ (b .1) in
-    let e = kept-cond (not (allows codings (n .compression))) 259 _ (d .1) in
-    let g = kept-cond (not (allows (between 0 3 ∷ []) (n .photometric))) 262 _ (e .1) in
-    let i = kept-cond (not (allows (between 1 8 ∷ []) (n .samples))) 277 _ (g .1) in
-    let j = kept-cond (not (allows (between 1 more ∷ []) (n .rows))) 278 _ (i .1) in
-    let k = kept-cond (not (allows (just 1 ∷ []) (n .planar))) 284 _ (j .1) in
-    let m = kept-cond (not (sixteens (n .tilewidth))) 322 _ (k .1) in
-    let o = kept-cond (not (sixteens (n .tilelength))) 323 _ (m .1) in
+    let a = kept-cond (not (allows sides (n .width))) Tag.width _ h in
+    let b = kept-cond (not (allows sides (n .length))) Tag.length _ (a .1) in
+    let d = kept-cond (not bitsallowed) Tag.bits _ (b .1) in
+    let e = kept-cond (not (allows codings (n .compression))) Tag.compression _ (d .1) in
+    let g = kept-cond (not (allows (between 0 3 ∷ []) (n .photometric))) Tag.photometric _ (e .1) in
+    let i = kept-cond (not (allows (between 1 8 ∷ []) (n .samples))) Tag.samples _ (g .1) in
+    let j = kept-cond (not (allows (between 1 more ∷ []) (n .rows))) Tag.rowsPerStrip _ (i .1) in
+    let k = kept-cond (not (allows (just 1 ∷ []) (n .planar))) Tag.planar _ (j .1) in
+    let m = kept-cond (not (sixteens (n .tilewidth))) Tag.tileWidth _ (k .1) in
+    let o = kept-cond (not (sixteens (n .tilelength))) Tag.tileLength _ (m .1) in
     let w = in-range 1 1000000 (n .width) (a .0) in
     let l = in-range 1 1000000 (n .length) (b .0) in
     record {
@@ -75,8 +76,8 @@ pub twelve-gives : (n : Numbers) (b : Bits) (tiled : Bool) (bitscount offsets by
 unfolding twelveOf
 twelve-gives n b tiled bitscount offsets bytecounts h =
     let pieces = countOfPieces n tiled in
-    let x = first-both (not (eqb bitscount (n .samples)) || not (b .same)) 258 _ h in
-    let y = first-both ((eqb (n .compression) 2 || eqb (n .compression) 32773) && (not (eqb (b .first) 1) || not (eqb (n .samples) 1))) 259 _ (x .1) in
-    let z = first-both (not (eqb offsets pieces)) (cond tiled 324 273) _ (y .1) in
-    let u = first-both (not (eqb bytecounts pieces)) (cond tiled 325 279) [] (z .1) in
+    let x = first-both (not (eqb bitscount (n .samples)) || not (b .same)) Tag.bits _ h in
+    let y = first-both ((eqb (n .compression) 2 || eqb (n .compression) 32773) && (not (eqb (b .first) 1) || not (eqb (n .samples) 1))) Tag.compression _ (x .1) in
+    let z = first-both (not (eqb offsets pieces)) (cond tiled Tag.tileOffsets Tag.stripOffsets) _ (y .1) in
+    let u = first-both (not (eqb bytecounts pieces)) (cond tiled Tag.tileByteCounts Tag.stripByteCounts) [] (z .1) in
     record { offsets-are = eqb-true _ _ (not-false _ (z .0)); byte-counts-are = eqb-true _ _ (not-false _ (u .0)) }

@@ -1,6 +1,5 @@
 -- The laws of this crate, file by file: what callers lean on is in Slots and Accepted. Assumes nothing.
 pub mod Values
-pub mod Lines
 pub mod Tested
 pub mod Slots
 pub mod Rules
@@ -8,4 +7,3 @@ pub mod Fetched
 pub mod Kept
 pub mod Answers
 pub mod Accepted
-pub mod Later

@@ -15,9 +15,11 @@ use Rattle.paper.specs.declared.Outcome.the-variants.{Kept as kept}
 use Rattle.paper.specs.Tests.{all, some, allows}
 use Rattle.paper.specs.Tags.{Line, any, sixteens, table, Held, find, has, countOf, valueOf, valuesOf, stripTags, tileTags, hasSome, tiled}
 use Rattle.paper.specs.Tags.{offsetsTag, byteCountsTag, pieceCount, lacks, fitsLine, disallowed, rule27, rule9, rule10, rule11, rule12}
+use Rattle.paper.specs.Tag
 use Rattle.paper.proofs.Laws.{and-eq, breaks-kept, kept-all}
 use Rattle.paper.proofs.Kept.{among, has-none}
 use Rattle.paper.proofs.Bounds.{noLine, table-named, fits-line}
+use Rattle.tags.specs.Index
 use Rattle.tags.specs.Slots.{lineAt, tagAt}
 use Rattle.tags.specs.Numbers.{numbersOf, bitsOf, elevenOf, countOfPieces, twelveOf}
 
@@ -34,7 +36,7 @@ pub record Lined (hs : List Held) (t a b least most : ℕ) : Type 0 where
 abbrev pub LinedAt : List Held → ℕ → Type 0
 LinedAt hs k = Lined hs (tagAt k) (lineAt k .type) (lineAt k .other) (lineAt k .least) (lineAt k .most)
 
-pub lined : (hs : List Held) → rule10 table hs ≡ kept → (k : ℕ) → k < 21 → has (tagAt k) hs ≡ true → LinedAt hs k
+pub lined : (hs : List Held) → rule10 table hs ≡ kept → (k : ℕ) → k < Index.many → has (tagAt k) hs ≡ true → LinedAt hs k
 unfolding tagAt lineAt fitsLine table
 lined hs ten k h p =
     let l : Line = getD table k noLine in
@@ -43,14 +45,14 @@ lined hs ten k h p =
     let b = and-eq (leb (l .least) n) (leb n (l .most)) (a .1) in
     record { present = p; kind = a .0; low = leb-true _ _ (b .0); high = leb-true _ _ (b .1) }
 
-needed-has : (hs : List Held) → rule9 table hs ≡ kept → (k : ℕ) → k < 21 → lineAt k .needed (tiled hs) ≡ true → has (tagAt k) hs ≡ true
+needed-has : (hs : List Held) → rule9 table hs ≡ kept → (k : ℕ) → k < Index.many → lineAt k .needed (tiled hs) ≡ true → has (tagAt k) hs ≡ true
 unfolding rule9 lacks tagAt lineAt table
 needed-has hs nine k h n =
     let m : getD table k noLine .needed (tiled hs) && not (has (getD table k noLine .tag) hs) ≡ false = kept-all (lacks hs) _ table noLine nine k h in
     not-false _ (rw n at m)
 
 -- and is present where it is needed
-pub needed-lined : (hs : List Held) → rule9 table hs ≡ kept → rule10 table hs ≡ kept → (k : ℕ) → k < 21 → lineAt k .needed (tiled hs) ≡ true → LinedAt hs k
+pub needed-lined : (hs : List Held) → rule9 table hs ≡ kept → rule10 table hs ≡ kept → (k : ℕ) → k < Index.many → lineAt k .needed (tiled hs) ≡ true → LinedAt hs k
 needed-lined hs nine ten k h n = lined hs ten k h (needed-has hs nine k h n)
 
 -- ---- its values
@@ -87,7 +89,7 @@ module _ (big : Bool) (hs : List Held) where
   asked-bad k other true l n ok = one-bad k (l refl)
   asked-bad k other false l n ok = absent-bad k other ok (n refl)
 
-  bits-bad : LinedAt hs 2 → disallowed big hs (lineAt 2) ≡ not (bitsOf big hs .allowed)
+  bits-bad : LinedAt hs Index.bits → disallowed big hs (lineAt Index.bits) ≡ not (bitsOf big hs .allowed)
   unfolding disallowed tagAt lineAt table bitsOf
   bits-bad l = rw (l .present)
 
@@ -121,29 +123,29 @@ pub eleven-is : (big : Bool) (hs : List Held) → rule27 hs ≡ kept → rule9 t
     → elevenOf (numbersOf big hs) (bitsOf big hs .allowed) ≡ rule11 table big hs
 unfolding rule11 elevenOf numbersOf firstBad lineAt tagAt table allows among some sixteens
 eleven-is big hs mixed nine ten =
-    let needed : (k : ℕ) → k < 21 → lineAt k .needed (tiled hs) ≡ true → LinedAt hs k = needed-lined hs nine ten in
+    let needed : (k : ℕ) → k < Index.many → lineAt k .needed (tiled hs) ≡ true → LinedAt hs k = needed-lined hs nine ten in
     rw (
-      one-bad big hs 0 (needed 0 (lit< tt) refl),
-      one-bad big hs 1 (needed 1 (lit< tt) refl),
-      bits-bad big hs (needed 2 (lit< tt) refl),
-      one-bad big hs 3 (needed 3 (lit< tt) refl),
-      one-bad big hs 4 (needed 4 (lit< tt) refl),
-      any-bad big hs 5 refl,
-      one-bad big hs 6 (needed 6 (lit< tt) refl),
-      asked-bad big hs 7 1 (not (tiled hs)) (needed 7 (lit< tt)) (λ e. no-strip hs mixed (not-not (tiled hs) e) 278 refl) refl,
-      any-bad big hs 8 refl,
-      asked-bad big hs 9 1 (has 284 hs) (lined hs ten 9 (lit< tt)) (λ e. e) refl,
-      asked-bad big hs 10 16 (tiled hs) (needed 10 (lit< tt)) (λ e. no-tile hs mixed e 322 refl) refl,
-      asked-bad big hs 11 16 (tiled hs) (needed 11 (lit< tt)) (λ e. no-tile hs mixed e 323 refl) refl,
-      any-bad big hs 12 refl,
-      any-bad big hs 13 refl,
-      any-bad big hs 14 refl,
-      any-bad big hs 15 refl,
-      any-bad big hs 16 refl,
-      any-bad big hs 17 refl,
-      any-bad big hs 18 refl,
-      any-bad big hs 19 refl,
-      any-bad big hs 20 refl,
+      one-bad big hs Index.width (needed Index.width (lit< tt) refl),
+      one-bad big hs Index.length (needed Index.length (lit< tt) refl),
+      bits-bad big hs (needed Index.bits (lit< tt) refl),
+      one-bad big hs Index.compression (needed Index.compression (lit< tt) refl),
+      one-bad big hs Index.photometric (needed Index.photometric (lit< tt) refl),
+      any-bad big hs Index.stripOffsets refl,
+      one-bad big hs Index.samples (needed Index.samples (lit< tt) refl),
+      asked-bad big hs Index.rowsPerStrip 1 (not (tiled hs)) (needed Index.rowsPerStrip (lit< tt)) (λ e. no-strip hs mixed (not-not (tiled hs) e) Tag.rowsPerStrip refl) refl,
+      any-bad big hs Index.stripByteCounts refl,
+      asked-bad big hs Index.planar 1 (has Tag.planar hs) (lined hs ten Index.planar (lit< tt)) (λ e. e) refl,
+      asked-bad big hs Index.tileWidth 16 (tiled hs) (needed Index.tileWidth (lit< tt)) (λ e. no-tile hs mixed e Tag.tileWidth refl) refl,
+      asked-bad big hs Index.tileLength 16 (tiled hs) (needed Index.tileLength (lit< tt)) (λ e. no-tile hs mixed e Tag.tileLength refl) refl,
+      any-bad big hs Index.tileOffsets refl,
+      any-bad big hs Index.tileByteCounts refl,
+      any-bad big hs Index.scale refl,
+      any-bad big hs Index.tiepoint refl,
+      any-bad big hs Index.matrix refl,
+      any-bad big hs Index.keyDirectory refl,
+      any-bad big hs Index.doubles refl,
+      any-bad big hs Index.characters refl,
+      any-bad big hs Index.metadata refl,
     )
 
 pub counted-is : (big : Bool) (hs : List Held) → countOfPieces (numbersOf big hs) (tiled hs) ≡ pieceCount big hs
@@ -155,6 +157,6 @@ counted-is big hs = go (tiled hs) refl
     go false e = rw e
 
 pub twelve-is : (big : Bool) (hs : List Held)
-    → twelveOf (numbersOf big hs) (bitsOf big hs) (tiled hs) (countOf 258 hs) (countOf (offsetsTag hs) hs) (countOf (byteCountsTag hs) hs) ≡ rule12 big hs
+    → twelveOf (numbersOf big hs) (bitsOf big hs) (tiled hs) (countOf Tag.bits hs) (countOf (offsetsTag hs) hs) (countOf (byteCountsTag hs) hs) ≡ rule12 big hs
 unfolding rule12 twelveOf numbersOf bitsOf
 twelve-is big hs = rw (counted-is big hs)

@@ -13,6 +13,7 @@ use Rattle.paper.specs.Tests.{all, Range, between, just, allows}
 use Rattle.paper.specs.Layout.{sizeOf}
 use Rattle.paper.specs.Tag
 use Rattle.paper.specs.Tags.{more, sixteens, Held, has, valueOf, valuesOf, tiled, roundedUp}
+use Rattle.tags.specs.Index
 use Rattle.tags.specs.declared.Numbers.{Numbers}
 use Rattle.tags.specs.declared.Bits.{Bits}
 
@@ -72,27 +73,27 @@ SingleIf asked n typ start = asked ≡ true → Single n typ start
 unfoldable pub numbersIn : Bool → List ℕ → Bool → List ℕ → List ℕ → Numbers
 numbersIn big f tiled typs starts =
     record {
-      width = numberIn big f (getD typs 0 0) (getD starts 0 0);
-      length = numberIn big f (getD typs 1 0) (getD starts 1 0);
-      compression = shortIn big f (getD starts 3 0);
-      photometric = shortIn big f (getD starts 4 0);
-      samples = shortIn big f (getD starts 6 0);
-      rows = numberIf (not tiled) big f (getD typs 7 0) (getD starts 7 0) 1;
-      planar = numberIf (not (eqb (getD starts 9 0) 0)) big f (getD typs 9 0) (getD starts 9 0) 1;
-      tilewidth = numberIf tiled big f (getD typs 10 0) (getD starts 10 0) 16;
-      tilelength = numberIf tiled big f (getD typs 11 0) (getD starts 11 0) 16;
+      width = numberIn big f (getD typs Index.width 0) (getD starts Index.width 0);
+      length = numberIn big f (getD typs Index.length 0) (getD starts Index.length 0);
+      compression = shortIn big f (getD starts Index.compression 0);
+      photometric = shortIn big f (getD starts Index.photometric 0);
+      samples = shortIn big f (getD starts Index.samples 0);
+      rows = numberIf (not tiled) big f (getD typs Index.rowsPerStrip 0) (getD starts Index.rowsPerStrip 0) 1;
+      planar = numberIf (not (eqb (getD starts Index.planar 0) 0)) big f (getD typs Index.planar 0) (getD starts Index.planar 0) 1;
+      tilewidth = numberIf tiled big f (getD typs Index.tileWidth 0) (getD starts Index.tileWidth 0) 16;
+      tilelength = numberIf tiled big f (getD typs Index.tileLength 0) (getD starts Index.tileLength 0) 16;
     }
 
 pub record Readable (n : ℕ) (tiled : Bool) (typs starts : List ℕ) : Type 0 where
-  pub width : Single n (getD typs 0 0) (getD starts 0 0)
-  pub length : Single n (getD typs 1 0) (getD starts 1 0)
-  pub compression : getD starts 3 0 + 2 ≤ n
-  pub photometric : getD starts 4 0 + 2 ≤ n
-  pub samples : getD starts 6 0 + 2 ≤ n
-  pub rows : SingleIf (not tiled) n (getD typs 7 0) (getD starts 7 0)
-  pub planar : SingleIf (not (eqb (getD starts 9 0) 0)) n (getD typs 9 0) (getD starts 9 0)
-  pub tilewidth : SingleIf tiled n (getD typs 10 0) (getD starts 10 0)
-  pub tilelength : SingleIf tiled n (getD typs 11 0) (getD starts 11 0)
+  pub width : Single n (getD typs Index.width 0) (getD starts Index.width 0)
+  pub length : Single n (getD typs Index.length 0) (getD starts Index.length 0)
+  pub compression : getD starts Index.compression 0 + 2 ≤ n
+  pub photometric : getD starts Index.photometric 0 + 2 ≤ n
+  pub samples : getD starts Index.samples 0 + 2 ≤ n
+  pub rows : SingleIf (not tiled) n (getD typs Index.rowsPerStrip 0) (getD starts Index.rowsPerStrip 0)
+  pub planar : SingleIf (not (eqb (getD starts Index.planar 0) 0)) n (getD typs Index.planar 0) (getD starts Index.planar 0)
+  pub tilewidth : SingleIf tiled n (getD typs Index.tileWidth 0) (getD starts Index.tileWidth 0)
+  pub tilelength : SingleIf tiled n (getD typs Index.tileLength 0) (getD starts Index.tileLength 0)
 
 -- each number that is counted with is one of 4 bytes
 pub record FourBytes (n : Numbers) : Type 0 where

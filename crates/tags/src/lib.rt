@@ -1,19 +1,26 @@
-// The table of tags: rules 27 and 9 to 12 over what one pass over the directory found of each tag, in the table's order: its type, its count,
+// The image's table of tags: rules 27 and 9 to 12 over what one pass over the directory found of each tag, in the table's order: its type, its count,
 // where its value starts and how long it is. An absent tag has 0 in all four.
 ghost use mathlib.Core.Path.{_≡_};
-ghost use mathlib.Core.Bool.{true, false, not, _&&_, _||_};
+ghost use mathlib.Core.Bool.{false, not, _&&_, _||_};
 ghost use Prim.Native.Nat.{_+_, _*_, _≤_, _<_};
 ghost use mathlib.Core.List.{[], _∷_};
-ghost use lib.Dec.{eqb};
-ghost use lib.ListN.{length, getD};
+ghost use lib.ListN.{length};
 ghost use Rattle.paper.specs.Tests.{between, allows};
-ghost use Rattle.paper.specs.Tags.{sixteens, roundedUp};
-ghost use Rattle.tags.specs.Slots.{someAt, stripSlots, tileSlots, nineFrom, unlike, misfit, tenFrom, someMisfit, Chosen, offsetsSlot, byteCountsSlot};
+ghost use Rattle.paper.specs.Tags.{table, sixteens, roundedUp};
+ghost use Rattle.lines.specs.Ready.{Ready, Behind};
+ghost use Rattle.tags.specs.Index.{many};
+ghost use Rattle.tags.specs.Slots.{someAt, stripSlots, tileSlots, offsetsSlot, byteCountsSlot};
 ghost use Rattle.tags.specs.Numbers.{depths, codings, bitsIn, shortIn, numberIn, numberIf, Single, SingleIf, Readable, numbersIn, FourBytes, Untiled, elevenOf, Countable, countOfPieces, twelveOf};
-ghost use Rattle.tags.specs.Tagging.{viewOf, taggedOf, Ready, Behind, Fitting};
+ghost use Rattle.tags.specs.Tagging.{viewOf, taggedOf, Fitting};
 use layout::Further;
 use paper::Outcome;
 use paper::Verdict;
+use table::SLOTS;
+
+pub mod table;
+
+// The greatest number that 4 bytes hold.
+const MORE: usize = lines::MORE as usize;
 
 // The tags with one number each, and that number; one that is not asked for counts as a number that is allowed.
 pub struct Numbers {
@@ -43,33 +50,23 @@ pub struct Tagged {
     pub tiled: bool,
 }
 
-// The types that a line of the table may name, and the most of a count that has no other.
-const BYTE: usize = 1;
-
-const ASCII: usize = 2;
-
-const SHORT: usize = 3;
-
-const LONG: usize = 4;
-
-const DOUBLE: usize = 12;
-
-const MORE: usize = 4294967295;
-
 // ---- strips or tiles
 
 // Whether a tag of strips is present.
-fn has_strips(starts: &[usize; 23]) -> bool
+fn has_strips(starts: &[usize; SLOTS]) -> bool
     ensures { λ r. ⌜ r ≡ someAt stripSlots (now (starts .entry)) ⌝ }
 {
-    (starts[5] != 0) | ((starts[7] != 0) | (starts[8] != 0))
+    (starts[table::STRIP_OFFSETS] != 0)
+        | ((starts[table::ROWS_PER_STRIP] != 0) | (starts[table::STRIP_BYTE_COUNTS] != 0))
 }
 
 // Whether a tag of tiles is present.
-fn has_tiles(starts: &[usize; 23]) -> bool
+fn has_tiles(starts: &[usize; SLOTS]) -> bool
     ensures { λ r. ⌜ r ≡ someAt tileSlots (now (starts .entry)) ⌝ }
 {
-    (starts[10] != 0) | ((starts[11] != 0) | ((starts[12] != 0) | (starts[13] != 0)))
+    (starts[table::TILE_WIDTH] != 0)
+        | ((starts[table::TILE_LENGTH] != 0)
+            | ((starts[table::TILE_OFFSETS] != 0) | (starts[table::TILE_BYTE_COUNTS] != 0)))
 }
 
 // Rule 27: both families, or neither.
@@ -81,241 +78,24 @@ fn is_mixed(strips: bool, tiles: bool) -> bool
 
 // The index in the table of the tag with the offsets of the pieces.
 pub fn offsets_slot(tiled: bool) -> usize
-    ensures { λ r. ⌜ (r ≡ offsetsSlot tiled) × (r < 21) ⌝ }
+    ensures { λ r. ⌜ (r ≡ offsetsSlot tiled) × (r < many) ⌝ }
 {
-    if tiled { 12 } else { 5 }
+    if tiled {
+        table::TILE_OFFSETS
+    } else {
+        table::STRIP_OFFSETS
+    }
 }
 
 // And of the one with their byte counts.
 pub fn byte_counts_slot(tiled: bool) -> usize
-    ensures { λ r. ⌜ (r ≡ byteCountsSlot tiled) × (r < 21) ⌝ }
+    ensures { λ r. ⌜ (r ≡ byteCountsSlot tiled) × (r < many) ⌝ }
 {
-    if tiled { 13 } else { 8 }
-}
-
-// ---- rules 9 and 10
-
-// Rule 9 from tag 273 on, in a picture of strips.
-fn needed_strips(starts: &[usize; 23]) -> Outcome
-    ensures { λ r. ⌜ r ≡ nineFrom 5 false (now (starts .entry)) ⌝ }
-{
-    if starts[5] == 0 {
-        return Outcome::Broken(273);
-    }
-    if starts[6] == 0 {
-        return Outcome::Broken(277);
-    }
-    if starts[7] == 0 {
-        return Outcome::Broken(278);
-    }
-    if starts[8] == 0 {
-        return Outcome::Broken(279);
-    }
-    if starts[17] == 0 {
-        return Outcome::Broken(34735);
-    }
-    Outcome::Kept
-}
-
-// The same in a picture of tiles.
-fn needed_tiles(starts: &[usize; 23]) -> Outcome
-    ensures { λ r. ⌜ r ≡ nineFrom 5 true (now (starts .entry)) ⌝ }
-{
-    if starts[6] == 0 {
-        return Outcome::Broken(277);
-    }
-    if starts[10] == 0 {
-        return Outcome::Broken(322);
-    }
-    if starts[11] == 0 {
-        return Outcome::Broken(323);
-    }
-    if starts[12] == 0 {
-        return Outcome::Broken(324);
-    }
-    if starts[13] == 0 {
-        return Outcome::Broken(325);
-    }
-    if starts[17] == 0 {
-        return Outcome::Broken(34735);
-    }
-    Outcome::Kept
-}
-
-// Rule 9: the lowest needed tag that is absent.
-fn needed_tags(starts: &[usize; 23], tiled: bool) -> Outcome
-    ensures { λ r. ⌜ r ≡ nineFrom 0 tiled (now (starts .entry)) ⌝ }
-{
-    if starts[0] == 0 {
-        return Outcome::Broken(256);
-    }
-    if starts[1] == 0 {
-        return Outcome::Broken(257);
-    }
-    if starts[2] == 0 {
-        return Outcome::Broken(258);
-    }
-    if starts[3] == 0 {
-        return Outcome::Broken(259);
-    }
-    if starts[4] == 0 {
-        return Outcome::Broken(262);
-    }
     if tiled {
-        return needed_tiles(starts);
+        table::TILE_BYTE_COUNTS
+    } else {
+        table::STRIP_BYTE_COUNTS
     }
-    needed_strips(starts)
-}
-
-// Whether a tag has another type or count than its line says.
-fn is_unlike(typ: usize, count: usize, a: usize, b: usize, least: usize, most: usize) -> bool
-    ensures { λ r. ⌜ r ≡ unlike typ count a b least most ⌝ }
-{
-    !(((typ == a) | (typ == b)) & ((least <= count) & (count <= most)))
-}
-
-// The same of a tag that may be absent, which is asked first.
-fn is_misfit(
-    start: usize,
-    typ: usize,
-    count: usize,
-    a: usize,
-    b: usize,
-    least: usize,
-    most: usize,
-) -> bool
-    ensures { λ r. ⌜ r ≡ misfit start typ count a b least most ⌝ }
-{
-    if start == 0 {
-        return false;
-    }
-    is_unlike(typ, count, a, b, least, most)
-}
-
-// Whether one of so many entries of 50909 is not as its line says.
-fn has_misfit(entries: &[u8], big: bool, many: usize) -> bool
-    requires { ⌜ (12 * many ≤ length (now entries)) × (many ≤ 1024) ⌝ }
-    ensures { λ r. ⌜ r ≡ someMisfit big (now (entries .entry)) 0 many ⌝ }
-{
-    let mut j = 0;
-    while j < many {
-        let typ = order::short(entries, big, 12 * j + 2);
-        let count = order::long(entries, big, 12 * j + 4);
-        if is_unlike(typ, count, BYTE, BYTE, 1, MORE) {
-            return true;
-        }
-        j += 1;
-    }
-    false
-}
-
-// Rule 10 from tag 33550 on, where 34735 is present.
-fn last_lines(typs: &[usize; 21], counts: &[usize; 21], starts: &[usize; 23]) -> Outcome
-    requires { ⌜ eqb (getD (now starts) 17 0) 0 ≡ false ⌝ }
-    ensures { λ r. ⌜ r ≡ tenFrom 14 (now (typs .entry)) (now (counts .entry)) (now (starts .entry)) ⌝ }
-{
-    if is_misfit(starts[14], typs[14], counts[14], DOUBLE, DOUBLE, 3, 3) {
-        return Outcome::Broken(33550);
-    }
-    if is_misfit(starts[15], typs[15], counts[15], DOUBLE, DOUBLE, 6, 6) {
-        return Outcome::Broken(33922);
-    }
-    if is_misfit(starts[16], typs[16], counts[16], DOUBLE, DOUBLE, 16, 16) {
-        return Outcome::Broken(34264);
-    }
-    if is_unlike(typs[17], counts[17], SHORT, SHORT, 4, MORE) {
-        return Outcome::Broken(34735);
-    }
-    if is_misfit(starts[18], typs[18], counts[18], DOUBLE, DOUBLE, 1, MORE) {
-        return Outcome::Broken(34736);
-    }
-    if is_misfit(starts[19], typs[19], counts[19], ASCII, ASCII, 1, MORE) {
-        return Outcome::Broken(34737);
-    }
-    if is_misfit(starts[20], typs[20], counts[20], BYTE, BYTE, 1, MORE) {
-        return Outcome::Broken(50909);
-    }
-    Outcome::Kept
-}
-
-// Rule 10 from tag 273 on, in a picture of strips that keeps rule 9.
-fn strip_lines(typs: &[usize; 21], counts: &[usize; 21], starts: &[usize; 23]) -> Outcome
-    requires { ⌜ Chosen false (now starts) ⌝ }
-    ensures { λ r. ⌜ r ≡ tenFrom 5 (now (typs .entry)) (now (counts .entry)) (now (starts .entry)) ⌝ }
-{
-    if is_unlike(typs[5], counts[5], SHORT, LONG, 1, MORE) {
-        return Outcome::Broken(273);
-    }
-    if is_unlike(typs[6], counts[6], SHORT, SHORT, 1, 1) {
-        return Outcome::Broken(277);
-    }
-    if is_unlike(typs[7], counts[7], SHORT, LONG, 1, 1) {
-        return Outcome::Broken(278);
-    }
-    if is_unlike(typs[8], counts[8], SHORT, LONG, 1, MORE) {
-        return Outcome::Broken(279);
-    }
-    if is_misfit(starts[9], typs[9], counts[9], SHORT, SHORT, 1, 1) {
-        return Outcome::Broken(284);
-    }
-    last_lines(typs, counts, starts)
-}
-
-// The same in a picture of tiles.
-fn tile_lines(typs: &[usize; 21], counts: &[usize; 21], starts: &[usize; 23]) -> Outcome
-    requires { ⌜ Chosen true (now starts) ⌝ }
-    ensures { λ r. ⌜ r ≡ tenFrom 5 (now (typs .entry)) (now (counts .entry)) (now (starts .entry)) ⌝ }
-{
-    if is_unlike(typs[6], counts[6], SHORT, SHORT, 1, 1) {
-        return Outcome::Broken(277);
-    }
-    if is_misfit(starts[9], typs[9], counts[9], SHORT, SHORT, 1, 1) {
-        return Outcome::Broken(284);
-    }
-    if is_unlike(typs[10], counts[10], SHORT, LONG, 1, 1) {
-        return Outcome::Broken(322);
-    }
-    if is_unlike(typs[11], counts[11], SHORT, LONG, 1, 1) {
-        return Outcome::Broken(323);
-    }
-    if is_unlike(typs[12], counts[12], LONG, LONG, 1, MORE) {
-        return Outcome::Broken(324);
-    }
-    if is_unlike(typs[13], counts[13], SHORT, LONG, 1, MORE) {
-        return Outcome::Broken(325);
-    }
-    last_lines(typs, counts, starts)
-}
-
-// Rule 10: the lowest tag of the table that is present with another type or count.
-fn fitting_lines(
-    typs: &[usize; 21],
-    counts: &[usize; 21],
-    starts: &[usize; 23],
-    tiled: bool,
-) -> Outcome
-    requires { ⌜ Chosen tiled (now starts) ⌝ }
-    ensures { λ r. ⌜ r ≡ tenFrom 0 (now (typs .entry)) (now (counts .entry)) (now (starts .entry)) ⌝ }
-{
-    if is_unlike(typs[0], counts[0], SHORT, LONG, 1, 1) {
-        return Outcome::Broken(256);
-    }
-    if is_unlike(typs[1], counts[1], SHORT, LONG, 1, 1) {
-        return Outcome::Broken(257);
-    }
-    if is_unlike(typs[2], counts[2], SHORT, SHORT, 1, MORE) {
-        return Outcome::Broken(258);
-    }
-    if is_unlike(typs[3], counts[3], SHORT, SHORT, 1, 1) {
-        return Outcome::Broken(259);
-    }
-    if is_unlike(typs[4], counts[4], SHORT, SHORT, 1, 1) {
-        return Outcome::Broken(262);
-    }
-    if tiled {
-        return tile_lines(typs, counts, starts);
-    }
-    strip_lines(typs, counts, starts)
 }
 
 // ---- the values
@@ -330,11 +110,11 @@ fn short_at(file: &[u8], big: bool, start: usize) -> usize
 }
 
 // The only value of a tag of type SHORT or LONG.
-fn number_at(file: &[u8], big: bool, typ: usize, start: usize) -> usize
+fn number_at(file: &[u8], big: bool, typ: u32, start: usize) -> usize
     requires { ⌜ Single (length (now file)) typ start ⌝ }
     ensures { λ r. ⌜ (r ≡ numberIn big (now (file .entry)) typ start) × (r < 4294967296) ⌝ }
 {
-    if typ == LONG {
+    if typ == lines::LONG {
         let end = start + 4;
         return order::long(&file[start..end], big, 0);
     }
@@ -342,7 +122,7 @@ fn number_at(file: &[u8], big: bool, typ: usize, start: usize) -> usize
 }
 
 // The same of a tag that is asked for, and else `other`.
-fn number_if(asked: bool, file: &[u8], big: bool, typ: usize, start: usize, other: usize) -> usize
+fn number_if(asked: bool, file: &[u8], big: bool, typ: u32, start: usize, other: usize) -> usize
     requires { ⌜ SingleIf asked (length (now file)) typ start × (other < 4294967296) ⌝ }
     ensures { λ r. ⌜ (r ≡ numberIf asked big (now (file .entry)) typ start other) × (r < 4294967296) ⌝ }
 {
@@ -357,22 +137,50 @@ fn read_numbers(
     file: &[u8],
     big: bool,
     tiled: bool,
-    typs: &[usize; 21],
-    starts: &[usize; 23],
+    typs: &[u32; SLOTS],
+    starts: &[usize; SLOTS],
 ) -> Numbers
     requires { ⌜ Readable (length (now file)) tiled (now typs) (now starts) ⌝ }
     ensures { λ r. ⌜ (r ≡ numbersIn big (now (file .entry)) tiled (now (typs .entry)) (now (starts .entry))) × FourBytes r ⌝ }
 {
     Numbers {
-        width: number_at(file, big, typs[0], starts[0]),
-        length: number_at(file, big, typs[1], starts[1]),
-        compression: short_at(file, big, starts[3]),
-        photometric: short_at(file, big, starts[4]),
-        samples: short_at(file, big, starts[6]),
-        rows: number_if(!tiled, file, big, typs[7], starts[7], 1),
-        planar: number_if(starts[9] != 0, file, big, typs[9], starts[9], 1),
-        tilewidth: number_if(tiled, file, big, typs[10], starts[10], 16),
-        tilelength: number_if(tiled, file, big, typs[11], starts[11], 16),
+        width: number_at(file, big, typs[table::WIDTH], starts[table::WIDTH]),
+        length: number_at(file, big, typs[table::LENGTH], starts[table::LENGTH]),
+        compression: short_at(file, big, starts[table::COMPRESSION]),
+        photometric: short_at(file, big, starts[table::PHOTOMETRIC]),
+        samples: short_at(file, big, starts[table::SAMPLES]),
+        rows: number_if(
+            !tiled,
+            file,
+            big,
+            typs[table::ROWS_PER_STRIP],
+            starts[table::ROWS_PER_STRIP],
+            1,
+        ),
+        planar: number_if(
+            starts[table::PLANAR] != 0,
+            file,
+            big,
+            typs[table::PLANAR],
+            starts[table::PLANAR],
+            1,
+        ),
+        tilewidth: number_if(
+            tiled,
+            file,
+            big,
+            typs[table::TILE_WIDTH],
+            starts[table::TILE_WIDTH],
+            16,
+        ),
+        tilelength: number_if(
+            tiled,
+            file,
+            big,
+            typs[table::TILE_LENGTH],
+            starts[table::TILE_LENGTH],
+            16,
+        ),
     }
 }
 
@@ -434,37 +242,37 @@ fn allowed_values(n: Numbers, bitsallowed: bool, tiled: bool) -> Outcome
     ensures { λ r. ⌜ r ≡ elevenOf n bitsallowed ⌝ }
 {
     if !is_between(n.width, 1, 1000000) {
-        return Outcome::Broken(256);
+        return Outcome::Broken(table::TAG_WIDTH);
     }
     if !is_between(n.length, 1, 1000000) {
-        return Outcome::Broken(257);
+        return Outcome::Broken(table::TAG_LENGTH);
     }
     if !bitsallowed {
-        return Outcome::Broken(258);
+        return Outcome::Broken(table::TAG_BITS);
     }
     if !is_coding(n.compression) {
-        return Outcome::Broken(259);
+        return Outcome::Broken(table::TAG_COMPRESSION);
     }
     if !is_between(n.photometric, 0, 3) {
-        return Outcome::Broken(262);
+        return Outcome::Broken(table::TAG_PHOTOMETRIC);
     }
     if !is_between(n.samples, 1, 8) {
-        return Outcome::Broken(277);
+        return Outcome::Broken(table::TAG_SAMPLES);
     }
     if !is_between(n.rows, 1, MORE) {
-        return Outcome::Broken(278);
+        return Outcome::Broken(table::TAG_ROWS_PER_STRIP);
     }
     if !is_between(n.planar, 1, 1) {
-        return Outcome::Broken(284);
+        return Outcome::Broken(table::TAG_PLANAR);
     }
     if !tiled {
         return Outcome::Kept;
     }
     if !is_sixteens(n.tilewidth) {
-        return Outcome::Broken(322);
+        return Outcome::Broken(table::TAG_TILE_WIDTH);
     }
     if !is_sixteens(n.tilelength) {
-        return Outcome::Broken(323);
+        return Outcome::Broken(table::TAG_TILE_LENGTH);
     }
     Outcome::Kept
 }
@@ -501,18 +309,26 @@ fn agreeing_tags(
     ensures { λ r. ⌜ r ≡ twelveOf n bits tiled bitscount offsets bytecounts ⌝ }
 {
     if (bitscount != n.samples) | !bits.same {
-        return Outcome::Broken(258);
+        return Outcome::Broken(table::TAG_BITS);
     }
     let coded = (n.compression == 2) | (n.compression == 32773);
     if coded & ((bits.first != 1) | (n.samples != 1)) {
-        return Outcome::Broken(259);
+        return Outcome::Broken(table::TAG_COMPRESSION);
     }
     let pieces = count_pieces(n, tiled);
     if offsets != pieces {
-        return Outcome::Broken(if tiled { 324 } else { 273 });
+        return Outcome::Broken(if tiled {
+            table::TAG_TILE_OFFSETS
+        } else {
+            table::TAG_STRIP_OFFSETS
+        });
     }
     if bytecounts != pieces {
-        return Outcome::Broken(if tiled { 325 } else { 279 });
+        return Outcome::Broken(if tiled {
+            table::TAG_TILE_BYTE_COUNTS
+        } else {
+            table::TAG_STRIP_BYTE_COUNTS
+        });
     }
     Outcome::Kept
 }
@@ -538,25 +354,32 @@ fn judge_values(
     at: usize,
     c: usize,
     tiled: bool,
-    typs: &[usize; 21],
-    counts: &[usize; 21],
-    starts: &[usize; 23],
-    lens: &[usize; 23],
+    typs: &[u32; SLOTS],
+    counts: &[u32; SLOTS],
+    starts: &[usize; SLOTS],
+    lens: &[usize; SLOTS],
 ) -> Tagged
     requires { ⌜ Fitting (now file) big at c tiled (now typs) (now counts) (now starts) (now lens) ⌝ }
-    ensures { λ r. ⌜ r ≡ taggedOf (viewOf (now (file .entry)) big at c) ⌝ }
+    ensures { λ r. ⌜ r ≡ taggedOf (viewOf table (now (file .entry)) big at c) ⌝ }
 {
     let n = read_numbers(file, big, tiled, typs, starts);
-    let start = starts[2];
-    let end = start + lens[2];
-    let bits = read_bits(&file[start..end], big, counts[2]);
+    let start = starts[table::BITS];
+    let end = start + lens[table::BITS];
+    let bits = read_bits(&file[start..end], big, lines::counted(counts[table::BITS]));
     let eleven = allowed_values(n, bits.allowed, tiled);
     if let Outcome::Broken(place) = eleven {
         return refused(11, place);
     }
-    let offsets = counts[offsets_slot(tiled)];
-    let bytecounts = counts[byte_counts_slot(tiled)];
-    let twelve = agreeing_tags(n, bits, tiled, counts[2], offsets, bytecounts);
+    let offsets = lines::counted(counts[offsets_slot(tiled)]);
+    let bytecounts = lines::counted(counts[byte_counts_slot(tiled)]);
+    let twelve = agreeing_tags(
+        n,
+        bits,
+        tiled,
+        lines::counted(counts[table::BITS]),
+        offsets,
+        bytecounts,
+    );
     if let Outcome::Broken(place) = twelve {
         return refused(12, place);
     }
@@ -577,30 +400,30 @@ pub fn judge_tags(
     big: bool,
     at: usize,
     c: usize,
-    typs: &[usize; 21],
-    counts: &[usize; 21],
-    starts: &[usize; 23],
-    lens: &[usize; 23],
+    typs: &[u32; SLOTS],
+    counts: &[u32; SLOTS],
+    starts: &[usize; SLOTS],
+    lens: &[usize; SLOTS],
     further: Further,
 ) -> Tagged
-    requires { ⌜ Ready (now file) big at c (now typs) (now counts) (now starts) (now lens) × Behind (now file) big at c further ⌝ }
-    ensures { λ r. ⌜ r ≡ taggedOf (viewOf (now (file .entry)) big at c) ⌝ }
+    requires { ⌜ Ready table (now file) big at c (now typs) (now counts) (now starts) (now lens) × Behind (now file) big at c further ⌝ }
+    ensures { λ r. ⌜ r ≡ taggedOf (viewOf table (now (file .entry)) big at c) ⌝ }
 {
     let tiled = has_tiles(starts);
     if is_mixed(has_strips(starts), tiled) {
         return refused(27, 0);
     }
-    let nine = needed_tags(starts, tiled);
+    let nine = lines::needed_tags(&table::LINES, starts, tiled);
     if let Outcome::Broken(place) = nine {
         return refused(9, place);
     }
-    let ten = fitting_lines(typs, counts, starts, tiled);
+    let ten = lines::fitting_tags(&table::LINES, typs, counts, starts);
     if let Outcome::Broken(place) = ten {
         return refused(10, place);
     }
     let later = layout::value(file, further.start, 12 * further.many);
-    if has_misfit(later, big, further.many) {
-        return refused(10, 50909);
+    if lines::has_misfit(&table::LINES, table::METADATA, later, big, further.many) {
+        return refused(10, table::TAG_METADATA);
     }
     judge_values(file, big, at, c, tiled, typs, counts, starts, lens)
 }

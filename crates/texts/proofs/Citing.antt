@@ -21,6 +21,7 @@ use Rattle.paper.specs.declared.Verdict.{Verdict}
 use Rattle.paper.proofs.Called.{answer-good, answer-bad}
 use Rattle.paper.proofs.Citation.{cite-within}
 use Rattle.paper.proofs.Laws.{run-length-in}
+use Rattle.tags.specs.Index
 use Rattle.tags.specs.Slots.{tagAt, lineAt}
 use Rattle.image.specs.Imaging.{tagPart}
 use Rattle.judge.specs.Examining.{examinedIn, examinedOf}
@@ -67,7 +68,7 @@ module _ (f : List ℕ) (zero : verdictOf f .number ≡ 0) (k : ℕ) where
 
   characters : Stands f (view f .held) Tag.characters
   unfolding tagAt lineAt table
-  characters = stands f zero 19 (lit< tt)
+  characters = stands f zero Index.characters (lit< tt)
 
   chars-length : length (runsOf (view f) .characters) ≡ find Tag.characters (view f .held) .entry .len
   unfolding runsOf

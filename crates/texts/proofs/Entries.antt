@@ -14,6 +14,7 @@ use Rattle.paper.specs.Calls.{judgedIn}
 use Rattle.paper.specs.declared.Judged.{Judged}
 use Rattle.paper.specs.declared.KeyEntry.{KeyEntry}
 use Rattle.paper.proofs.Called.{judged-verdict}
+use Rattle.tags.specs.Index
 use Rattle.tags.specs.Slots.{tagAt, lineAt}
 use Rattle.keys.specs.Pass.{runs}
 use Rattle.keys.proofs.Head.{Headed, headed}
@@ -44,7 +45,7 @@ pub record Lists (f : List ℕ) (e : Examined) : Type 0 where
 module _ (f : List ℕ) (zero : verdictOf f .number ≡ 0) where
   directory : Stands f (view f .held) Tag.keyDirectory
   unfolding tagAt lineAt table
-  directory = stands f zero 17 (lit< tt)
+  directory = stands f zero Index.keyDirectory (lit< tt)
 
   head-is : Headed (view f .head .big) (bytesOf Tag.keyDirectory (view f .held))
   unfolding rule15 short minorRevision keyCount runsOf

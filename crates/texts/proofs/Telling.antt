@@ -27,6 +27,7 @@ use Rattle.paper.proofs.Texts.{text-past, text-own}
 use Rattle.layout.specs.Repeats.{textCount, furtherOf, laterTexts, entriesFrom}
 use Rattle.layout.specs.declared.Further.{Further}
 use Rattle.layout.proofs.Repeats.{many-is}
+use Rattle.tags.specs.Index
 use Rattle.tags.specs.Slots.{tagAt, lineAt}
 use Rattle.image.specs.Imaging.{tagPart}
 use Rattle.judge.specs.Examining.{examinedIn, examinedOf}
@@ -69,11 +70,11 @@ module _ (f : List ℕ) (zero : verdictOf f .number ≡ 0) where
 
   has-is : has Tag.metadata (view f .held) ≡ not (eqb (find Tag.metadata (view f .held) .entry .start) 0)
   unfolding tagAt lineAt table
-  has-is = present f zero 20 (lit< tt)
+  has-is = present f zero Index.metadata (lit< tt)
 
   stands-in : Stands f (view f .held) Tag.metadata
   unfolding tagAt lineAt table
-  stands-in = stands f zero 20 (lit< tt)
+  stands-in = stands f zero Index.metadata (lit< tt)
 
   in-view : (m : ℕ) → Told f (examinedIn (view f)) 0 m
   unfolding examinedIn judgedIn tagPart textBefore

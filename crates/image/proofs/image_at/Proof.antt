@@ -1,12 +1,13 @@
 -- `image_at` opens the directory at the place that the head names. Assumes nothing.
 use mathlib.Core.Path.{sym, _∙_}
 use borrow.Author.Needs.{needs}
-use Rattle.image.proofs.Imaging.{size, opened-bad}
+use Rattle.layout.proofs.Opening.{head-good}
+use Rattle.image.proofs.Imaging.{opened-bad}
 use Rattle.image.proofs.image_at.Statement.{statement}
 use Rattle.image.proofs.image_at.Tie as tie
 
 open-requires : tie.Need-open-requires
-open-requires c κs = size _ (c .before .pre)
+open-requires c κs = head-good _ _ _ (c .before .pre) .size
 
 enum-known-o : tie.Need-enum-known-o
 enum-known-o c = search needs

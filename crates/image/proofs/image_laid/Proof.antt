@@ -1,34 +1,46 @@
--- `image_laid` passes over the directory, tests the next offset, and goes on with the columns. Assumes nothing.
+-- `image_laid` passes over the directory, tests the next offset, and goes on with the columns. What a table's cells must satisfy is computed here for the
+-- image's, by `refl`. Assumes nothing.
+use Prim.Native.Nat.{ℕ}
 use mathlib.Core.Path.{refl, _∙_}
+use mathlib.Core.Bool.{true}
+use mathlib.Core.List.{List}
 use borrow.Author.Needs.{needs}
 use native.Mathlib.Omega.{arith}
+use lib.Dec.{lit<}
+use lib.ListN.{replicate}
+use Rattle.paper.specs.Bytes.{build}
+use Rattle.paper.specs.Tests.{all, indexOf}
 use Rattle.paper.specs.Tags.{table}
-use Rattle.layout.specs.Columns.{tags, fieldOf, column, typColumn, countColumn, startColumn, lenColumn}
-use Rattle.layout.specs.Finding.{cellTags, cellSlots}
-use Rattle.image.proofs.Imaging.{sums, scan-asked, part-cut, scan-bad, next-bad, scan-passed, scan-good}
+use Rattle.layout.specs.Columns.{fieldOf, column}
+use Rattle.layout.specs.Finding.{cellOf, inCell, slotTags, right}
+use Rattle.lines.specs.Lined.{lineTags}
+use Rattle.layout.proofs.Stages.{part-cut, scan-asked}
+use Rattle.image.proofs.Imaging.{scan-bad, next-bad, scan-passed, scan-good}
 use Rattle.image.proofs.image_laid.Statement.{statement}
 use Rattle.image.proofs.image_laid.Tie as tie
+use Rattle.tags.specs.Index
+
+-- where the function starts, from the pass over the directory, and where that pass is, from behind the two tests
+abbrev begun : tie.After-scan → tie.Start
+begun c = c .before .before .before .before .before .before .before .before .before
+
+abbrev scanned : tie.After-struct-known → tie.After-scan
+scanned c = c .before .before .before .before .before
+
+abbrev kept7 : tie.Else2 → tie.Else1
+kept7 c = c .before .before
 
 mul-len : tie.Need-mul-len
-mul-len c = omega (arith, sums (c .before .pre))
+mul-len c = omega (arith, scan-asked (c .before .pre))
 
 add-len : tie.Need-add-len
-add-len c = omega (arith, sums (c .before .pre))
+add-len c = omega (arith, scan-asked (c .before .pre))
 
 add-len-2 : tie.Need-add-len-2
-add-len-2 c = omega (arith, sums (c .before .pre))
+add-len-2 c = omega (arith, scan-asked (c .before .pre))
 
 add-end : tie.Need-add-end
-add-end c = omega (arith, sums (c .before .pre))
-
-array-write-starts : tie.Need-array-write-starts
-array-write-starts c = search needs
-
-array-write-lens : tie.Need-array-write-lens
-array-write-lens c = search needs
-
-array-write-lens-2 : tie.Need-array-write-lens-2
-array-write-lens-2 c = search needs
+add-end c = omega (arith, scan-asked (c .before .pre))
 
 sub-scan : tie.Need-sub-scan
 sub-scan c = search needs
@@ -37,21 +49,46 @@ part-scan-start : tie.Need-part-scan-start
 part-scan-start c = search needs
 
 part-scan-end : tie.Need-part-scan-end
-part-scan-end c = omega (arith, sums (c .before .before .before .pre))
+part-scan-end c = omega (arith, scan-asked (c .before .before .before .pre))
+
+slice-aggregate-scan : tie.Need-slice-aggregate-scan
+slice-aggregate-scan c = search needs
+
+slice-aggregate-scan-2 : tie.Need-slice-aggregate-scan-2
+slice-aggregate-scan-2 c = search needs
+
+slice-aggregate-scan-3 : tie.Need-slice-aggregate-scan-3
+slice-aggregate-scan-3 c = search needs
+
+slice-aggregate-scan-4 : tie.Need-slice-aggregate-scan-4
+slice-aggregate-scan-4 c = search needs
+
+-- a column of no entry
+abbrev None : List ℕ
+None = replicate Index.many 0
 
 scan-requires : tie.Need-scan-requires
-unfolding typColumn countColumn startColumn lenColumn column fieldOf tags table cellTags cellSlots
+unfolding column fieldOf slotTags cellOf inCell right all indexOf build
 scan-requires c κs =
-    let a = scan-asked (c .before .before .before .before .before .before .before .before .pre) in
-    (a .0, a .1, a .2, a .3, a .4, refl, refl, refl, refl, refl, refl)
+    let a = scan-asked (c .before .before .before .before .before .before .before .before .pre) in (
+      a .0,
+      a .1,
+      a .2,
+      a .3,
+      a .4,
+      lit< tt,
+      record { different = refl {a = true}; stand = refl {a = true}; rights = refl {a = true} },
+      record { typs-are = refl {a = None}; counts-are = refl {a = None}; starts-are = refl {a = None}; lens-are = refl {a = None} },
+    )
 
 no-image-requires : tie.Need-no-image-requires
 no-image-requires c κs = search needs
 
 returns : tie.Need-returns
 returns c =
-    let o = c .before .before .before .before .before .before .before .before .before .before .before .before .pre in
-    let s = rw (part-cut o) at (c .before .before .before .scan .ensures) in
+    let r = scanned (c .before .before) in
+    let o = begun r .pre in
+    let s = rw (part-cut o) at (r .scan .ensures) in
     c .no-image .ensures ∙ scan-bad o (s .0) (c .before .if1 .taken)
 
 no-image-requires-2 : tie.Need-no-image-requires-2
@@ -59,24 +96,30 @@ no-image-requires-2 c κs = search needs
 
 returns-2 : tie.Need-returns-2
 returns-2 c =
-    let o = c .before .before .before .before .before .before .before .before .before .before .before .before .before .before .pre in
-    let s = rw (part-cut o) at (c .before .before .before .before .before .scan .ensures) in
-    c .no-image2 .ensures ∙ next-bad o (s .0) (c .before .before .before .if1 .left) (c .before .if2 .taken)
+    let e = c .before .before .before in
+    let r = scanned (e .before) in
+    let o = begun r .pre in
+    let s = rw (part-cut o) at (r .scan .ensures) in
+    c .no-image2 .ensures ∙ next-bad o (s .0) (e .if1 .left) (c .before .if2 .taken)
 
 image-columns-requires : tie.Need-image-columns-requires
+unfolding slotTags indexOf build lineTags table
 image-columns-requires c κs =
-    let l = c .before .before .before .before .before .before .before in
-    let o = l .before .before .before .before .before .before .before .before .before .before .before .pre in
-    let s = rw (part-cut o) at (l .before .before .scan .ensures) in
-    scan-passed o (s .0) (l .if1 .left) (s .1 .0) (s .1 .1 .0) (s .1 .1 .1 .0) (s .1 .1 .1 .1)
+    let n = c .before .before .before .before .before in
+    let e = kept7 n in
+    let r = scanned (e .before) in
+    let o = begun r .pre in
+    let s = rw (part-cut o) at (r .scan .ensures) in
+    scan-passed o (s .0) (e .if1 .left) refl (s .1)
 
 returns-3 : tie.Need-returns-3
 returns-3 c =
     let n = c .before .before .before .before .before .before in
-    let l = n .before .before in
-    let o = l .before .before .before .before .before .before .before .before .before .before .before .pre in
-    let s = rw (part-cut o) at (l .before .before .scan .ensures) in
-    c .image-columns .ensures ∙ scan-good o (s .0) (l .if1 .left) (n .if2 .left)
+    let e = kept7 n in
+    let r = scanned (e .before) in
+    let o = begun r .pre in
+    let s = rw (part-cut o) at (r .scan .ensures) in
+    c .image-columns .ensures ∙ scan-good o (s .0) (e .if1 .left) (n .if2 .left)
 
 pub image-laid-spec : {M : Type 1} → statement M
 image-laid-spec =
@@ -86,12 +129,13 @@ image-laid-spec =
     add-len
     add-len-2
     add-end
-    array-write-starts
-    array-write-lens
-    array-write-lens-2
     sub-scan
     part-scan-start
     part-scan-end
+    slice-aggregate-scan
+    slice-aggregate-scan-2
+    slice-aggregate-scan-3
+    slice-aggregate-scan-4
     scan-requires
     no-image-requires
     returns

@@ -1,51 +1,45 @@
--- `outer` takes twelve numbers of a column. Assumes nothing.
+-- `outer` takes ten numbers of a column, and two others. Assumes nothing.
 use mathlib.Core.Path.{refl}
 use borrow.Author.Needs.{needs}
 use Rattle.image.specs.Stages.{outerOf}
 use Rattle.image.proofs.outer.Statement.{statement}
 use Rattle.image.proofs.outer.Tie as tie
 
-element-copy-out-t6 : tie.Need-element-copy-out-t6
-element-copy-out-t6 c = search needs
+element-copy-out-t8 : tie.Need-element-copy-out-t8
+element-copy-out-t8 c = search needs
 
-mul-t7 : tie.Need-mul-t7
-mul-t7 c = search needs
+mul-t9 : tie.Need-mul-t9
+mul-t9 c = search needs
 
-element-copy-out-t10 : tie.Need-element-copy-out-t10
-element-copy-out-t10 c = search needs
+element-copy-out-t12 : tie.Need-element-copy-out-t12
+element-copy-out-t12 c = search needs
 
-mul-t11 : tie.Need-mul-t11
-mul-t11 c = search needs
+mul-t13 : tie.Need-mul-t13
+mul-t13 c = search needs
 
-element-copy-out-t14 : tie.Need-element-copy-out-t14
-element-copy-out-t14 c = search needs
+element-copy-out-t16 : tie.Need-element-copy-out-t16
+element-copy-out-t16 c = search needs
 
-element-copy-out-t17 : tie.Need-element-copy-out-t17
-element-copy-out-t17 c = search needs
+element-copy-out-t19 : tie.Need-element-copy-out-t19
+element-copy-out-t19 c = search needs
 
-element-copy-out-t20 : tie.Need-element-copy-out-t20
-element-copy-out-t20 c = search needs
+element-copy-out-t22 : tie.Need-element-copy-out-t22
+element-copy-out-t22 c = search needs
 
-element-copy-out-t23 : tie.Need-element-copy-out-t23
-element-copy-out-t23 c = search needs
+element-copy-out-t25 : tie.Need-element-copy-out-t25
+element-copy-out-t25 c = search needs
 
-element-copy-out-t26 : tie.Need-element-copy-out-t26
-element-copy-out-t26 c = search needs
+element-copy-out-t28 : tie.Need-element-copy-out-t28
+element-copy-out-t28 c = search needs
 
-element-copy-out-t29 : tie.Need-element-copy-out-t29
-element-copy-out-t29 c = search needs
+element-copy-out-t31 : tie.Need-element-copy-out-t31
+element-copy-out-t31 c = search needs
 
-element-copy-out-t32 : tie.Need-element-copy-out-t32
-element-copy-out-t32 c = search needs
+element-copy-out-t34 : tie.Need-element-copy-out-t34
+element-copy-out-t34 c = search needs
 
-element-copy-out-t35 : tie.Need-element-copy-out-t35
-element-copy-out-t35 c = search needs
-
-element-copy-out-t38 : tie.Need-element-copy-out-t38
-element-copy-out-t38 c = search needs
-
-element-copy-out-t41 : tie.Need-element-copy-out-t41
-element-copy-out-t41 c = search needs
+element-copy-out-t37 : tie.Need-element-copy-out-t37
+element-copy-out-t37 c = search needs
 
 returns : tie.Need-returns
 unfolding outerOf
@@ -55,18 +49,16 @@ pub outer-spec : {M : Type 1} → statement M
 outer-spec =
     tie.close
     (tie.spec
-    element-copy-out-t6
-    mul-t7
-    element-copy-out-t10
-    mul-t11
-    element-copy-out-t14
-    element-copy-out-t17
-    element-copy-out-t20
-    element-copy-out-t23
-    element-copy-out-t26
-    element-copy-out-t29
-    element-copy-out-t32
-    element-copy-out-t35
-    element-copy-out-t38
-    element-copy-out-t41
+    element-copy-out-t8
+    mul-t9
+    element-copy-out-t12
+    mul-t13
+    element-copy-out-t16
+    element-copy-out-t19
+    element-copy-out-t22
+    element-copy-out-t25
+    element-copy-out-t28
+    element-copy-out-t31
+    element-copy-out-t34
+    element-copy-out-t37
     returns)

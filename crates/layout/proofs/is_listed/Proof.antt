@@ -1,6 +1,6 @@
 -- `is_listed` looks a tag up in its cell. Assumes nothing.
 use borrow.Author.Needs.{needs}
-use Rattle.layout.proofs.Finding.{listed-by}
+use Rattle.layout.specs.Finding.{inCell}
 use Rattle.layout.proofs.is_listed.Statement.{statement}
 use Rattle.layout.proofs.is_listed.Tie as tie
 
@@ -17,7 +17,8 @@ wide-requires : tie.Need-wide-requires
 wide-requires c κs = search needs
 
 returns : tie.Need-returns
-returns c = search listed-by
+unfolding inCell
+returns c = rw (c .wide .ensures, c .before .before .cell-of .ensures .0)
 
 pub is-listed-spec : {M : Type 1} → statement M
 is-listed-spec =

@@ -1,22 +1,45 @@
 -- `scan` passes over the entries from the last to the first; its turns are laws of `Turns`. Assumes nothing.
+use Prim.Native.Nat.{ℕ, _<_}
 use mathlib.Core.Path.{sym, _∙_}
+use mathlib.Core.List.{List}
 use native.Mathlib.Omega.{arith}
+use lib.ListN.{length}
 use borrow.Author.Needs.{needs}
 use Rattle.layout.proofs.Sizes.{len-of}
-use Rattle.layout.proofs.Turns.{Passing, pass-start, turn-in, turn-out, pass-known, pass-end}
+use Rattle.layout.specs.Finding.{slotTags, Celled}
+use Rattle.layout.proofs.Finding.{cell-slot}
+use Rattle.layout.proofs.Turns.{Long, long, Passing, pass-start, turn-in, turn-out, pass-known, pass-end}
 use Rattle.layout.proofs.scan.Statement.{statement}
 use Rattle.layout.proofs.scan.Tie as tie
 
 abbrev Inv-loop : tie.InvT-loop
-Inv-loop cells slots dir big at c n typs₀ counts₀ starts₀ lens₀ six₀ seven₀ next₀ i₀ typs counts starts lens six seven next i =
-    Passing n big at c dir i six seven next typs counts starts lens
+Inv-loop cells slots factor dir big at c n typs₀ counts₀ starts₀ lens₀ six₀ seven₀ next₀ i₀ typs counts starts lens six seven next i =
+    Passing n big at c dir i six seven next (slotTags cells slots (length typs₀)) typs counts starts lens
 
 abbrev μ-loop : tie.MeasureT-loop
-μ-loop cells slots dir big at c n typs₀ counts₀ starts₀ lens₀ six₀ seven₀ next₀ i₀ typs counts starts lens six seven next i =
+μ-loop cells slots factor dir big at c n typs₀ counts₀ starts₀ lens₀ six₀ seven₀ next₀ i₀ typs counts starts lens six seven next i =
     i
 
+-- where the loop stands, from behind the test whether a tag is listed, and where the function starts
+abbrev looped : tie.After-is-listed Inv-loop μ-loop → tie.At-loop Inv-loop μ-loop
+looped c = c .before .before .before .before .before .before .before
+
+abbrev started : tie.At-loop Inv-loop μ-loop → tie.Start Inv-loop μ-loop
+started c = c .before .before .before .before .before .before
+
+-- the tags of the table
+abbrev Tags : tie.Start Inv-loop μ-loop → List ℕ
+Tags c = slotTags (c .args .cells .now) (c .args .slots .now) (length (c .args .typs .now))
+
+celled : (c : tie.Start Inv-loop μ-loop) → Celled (c .args .factor) (c .args .cells .now) (c .args .slots .now) (Tags c)
+celled c = c .pre .6
+
+-- the columns are as long as they were
+kept-long : (c : tie.At-loop Inv-loop μ-loop) → Long (Tags (started c)) (c .loop .typs) (c .loop .counts) (c .loop .starts) (c .loop .lens)
+kept-long c = long (c .loop .inv .columns)
+
 loop-holds : tie.Need-loop-holds Inv-loop μ-loop
-loop-holds c = search pass-start
+loop-holds c = pass-start _ _ _ _ _ _ _ _ _ _ (c .before .before .before .before .before .pre .7)
 
 sub-i : tie.Need-sub-i Inv-loop μ-loop
 sub-i c = omega arith
@@ -43,43 +66,67 @@ is-listed-requires : tie.Need-is-listed-requires Inv-loop μ-loop
 is-listed-requires c κs = search needs
 
 slot-of-requires : tie.Need-slot-of-requires Inv-loop μ-loop
-slot-of-requires c κs = (search needs, search needs, sym (c .before .is-listed .ensures) ∙ c .if1 .taken)
+slot-of-requires c κs = search needs
+
+-- the slot of a tag that is listed is one of the columns
+slot-low : (c : tie.After-slot-of Inv-loop μ-loop) → c .slot-of .result < length (Tags (started (looped (c .before .before))))
+slot-low c =
+    let l = c .before .before in
+    let s = cell-slot (celled (started (looped l))) _ (sym (l .is-listed .ensures) ∙ c .before .if1 .taken) .1 in
+    omega (arith, c .slot-of .ensures .0, s)
+
+cast-typs : tie.Need-cast-typs Inv-loop μ-loop
+cast-typs c = search needs
 
 mul-typs : tie.Need-mul-typs Inv-loop μ-loop
-mul-typs c = omega arith
+mul-typs c = omega (arith, c .before .slot-of .ensures .1)
 
-element-write-typs : tie.Need-element-write-typs Inv-loop μ-loop
-element-write-typs c = search needs
+slice-write-typs : tie.Need-slice-write-typs Inv-loop μ-loop
+slice-write-typs c = omega (arith, slot-low (c .before), kept-long (looped (c .before .before .before)) .typs-long)
+
+cast-counts : tie.Need-cast-counts Inv-loop μ-loop
+cast-counts c = search needs
 
 mul-counts : tie.Need-mul-counts Inv-loop μ-loop
-mul-counts c = omega arith
+mul-counts c = omega (arith, c .before .before .slot-of .ensures .1)
 
-element-write-counts : tie.Need-element-write-counts Inv-loop μ-loop
-element-write-counts c = search needs
+slice-write-counts : tie.Need-slice-write-counts Inv-loop μ-loop
+slice-write-counts c = omega (arith, slot-low (c .before .before), kept-long (looped (c .before .before .before .before)) .counts-long)
 
 mul-starts : tie.Need-mul-starts Inv-loop μ-loop
-mul-starts c = omega arith
+mul-starts c = omega (arith, c .before .before .slot-of .ensures .1)
 
-element-write-starts : tie.Need-element-write-starts Inv-loop μ-loop
-element-write-starts c = search needs
+slice-write-starts : tie.Need-slice-write-starts Inv-loop μ-loop
+slice-write-starts c = omega (arith, slot-low (c .before .before), kept-long (looped (c .before .before .before .before)) .starts-long)
 
 mul-lens : tie.Need-mul-lens Inv-loop μ-loop
-mul-lens c = omega arith
+mul-lens c = omega (arith, c .before .before .slot-of .ensures .1)
 
-element-write-lens : tie.Need-element-write-lens Inv-loop μ-loop
-element-write-lens c = search needs
+slice-write-lens : tie.Need-slice-write-lens Inv-loop μ-loop
+slice-write-lens c = omega (arith, slot-low (c .before .before), kept-long (looped (c .before .before .before .before)) .lens-long)
 
 loop-less : tie.Need-loop-less Inv-loop μ-loop
 loop-less c = omega arith
 
 loop-again : tie.Need-loop-again Inv-loop μ-loop
-loop-again c = search turn-in
+loop-again c =
+    let k = c .before .before in
+    let l = k .before .before in
+    let b = l .before .before .before in
+    let e = b .before .before in
+    turn-in (looped l .loop .inv) (celled (started (looped l))) (e .before .loop-test .taken) (e .entry-at .ensures .0) (e .entry-at .ensures .1)
+    (b .broken-or .ensures) (l .before .before .bad-value .ensures) (l .before .broken-or2 .ensures) (l .is-listed .ensures) (k .before .if1 .taken) (k .slot-of .ensures .0)
 
 loop-less-2 : tie.Need-loop-less-2 Inv-loop μ-loop
 loop-less-2 c = omega arith
 
 loop-again-2 : tie.Need-loop-again-2 Inv-loop μ-loop
-loop-again-2 c = search turn-out
+loop-again-2 c =
+    let l = c .before in
+    let b = l .before .before .before in
+    let e = b .before .before in
+    turn-out (looped l .loop .inv) (celled (started (looped l))) (e .before .loop-test .taken) (e .entry-at .ensures .0) (e .entry-at .ensures .1)
+    (b .broken-or .ensures) (l .before .before .bad-value .ensures) (l .before .broken-or2 .ensures) (l .is-listed .ensures) (c .if1 .left)
 
 judge-order-requires : tie.Need-judge-order-requires Inv-loop μ-loop
 judge-order-requires c κs =
@@ -106,8 +153,20 @@ add-long c = omega arith
 long-requires : tie.Need-long-requires Inv-loop μ-loop
 long-requires c κs = omega arith
 
-cast-t40 : tie.Need-cast-t40 Inv-loop μ-loop
-cast-t40 c = omega arith
+cast-t38 : tie.Need-cast-t38 Inv-loop μ-loop
+cast-t38 c = omega arith
+
+same-length : tie.Need-same-length Inv-loop μ-loop
+same-length c = let l = c .before .before .before .before .before .before .before .before in kept-long l .typs-long ∙ sym (long (started l .pre .7) .typs-long)
+
+same-length-2 : tie.Need-same-length-2 Inv-loop μ-loop
+same-length-2 c = let l = c .before .before .before .before .before .before .before .before in kept-long l .counts-long ∙ sym (long (started l .pre .7) .counts-long)
+
+same-length-3 : tie.Need-same-length-3 Inv-loop μ-loop
+same-length-3 c = let l = c .before .before .before .before .before .before .before .before in kept-long l .starts-long ∙ sym (long (started l .pre .7) .starts-long)
+
+same-length-4 : tie.Need-same-length-4 Inv-loop μ-loop
+same-length-4 c = let l = c .before .before .before .before .before .before .before .before in kept-long l .lens-long ∙ sym (long (started l .pre .7) .lens-long)
 
 returns : tie.Need-returns Inv-loop μ-loop
 returns c =
@@ -132,14 +191,16 @@ scan-spec =
     broken-or-requires-2
     is-listed-requires
     slot-of-requires
+    cast-typs
     mul-typs
-    element-write-typs
+    slice-write-typs
+    cast-counts
     mul-counts
-    element-write-counts
+    slice-write-counts
     mul-starts
-    element-write-starts
+    slice-write-starts
     mul-lens
-    element-write-lens
+    slice-write-lens
     loop-less
     loop-again
     loop-less-2
@@ -152,5 +213,9 @@ scan-spec =
     mul-long
     add-long
     long-requires
-    cast-t40
+    cast-t38
+    same-length
+    same-length-2
+    same-length-3
+    same-length-4
     returns)

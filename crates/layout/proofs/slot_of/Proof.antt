@@ -1,6 +1,5 @@
--- `slot_of` is the index that stands in the tag's cell. Assumes nothing.
+-- `slot_of` is the slot that stands in the tag's cell. Assumes nothing.
 use borrow.Author.Needs.{needs}
-use Rattle.layout.proofs.Finding.{slot-by}
 use Rattle.layout.proofs.slot_of.Statement.{statement}
 use Rattle.layout.proofs.slot_of.Tie as tie
 
@@ -14,9 +13,7 @@ wide-slot-requires : tie.Need-wide-slot-requires
 wide-slot-requires c κs = search needs
 
 returns : tie.Need-returns
-returns c =
-    let p = c .before .before .before .pre in
-    slot-by _ _ (c .before .before .cell-of .ensures .0) _ _ (p .0) (c .wide-slot .ensures) (p .2)
+returns c = (rw (c .wide-slot .ensures .0, c .before .before .cell-of .ensures .0), c .wide-slot .ensures .1)
 
 pub slot-of-spec : {M : Type 1} → statement M
 slot-of-spec =

@@ -6,6 +6,16 @@ use Rattle.tags.proofs.Answers.{refused-eleven, countable, refused-twel
 use Rattle.tags.proofs.judge_values.Statement.{statement}
 use Rattle.tags.proofs.judge_values.Tie as tie
 
+-- where the numbers are read, from behind rule 11; where the function starts, from there; and where rule 11 is kept, from behind rule 12
+abbrev numbers : tie.After-allowed-values → tie.After-read-numbers
+numbers c = c .before .before .before .before .before .before .before
+
+abbrev begun : tie.After-read-numbers → tie.Start
+begun c = c .before .before
+
+abbrev kept11 : tie.After-agreeing-tags → tie.After-enum-told
+kept11 c = c .before .before .before .before .before .before .before .before .before
+
 read-numbers-requires : tie.Need-read-numbers-requires
 read-numbers-requires c κs = readable (c .before .pre)
 
@@ -16,7 +26,7 @@ element-copy-out-end : tie.Need-element-copy-out-end
 element-copy-out-end c = search needs
 
 add-end : tie.Need-add-end
-add-end c = let w = c .before .before .before .before .pre in omega (arith, bits-end w, w .ready .size)
+add-end c = let w = begun (c .before .before) .pre in omega (arith, bits-end w, w .ready .size)
 
 sub-read-bits : tie.Need-sub-read-bits
 sub-read-bits c = search needs
@@ -25,13 +35,16 @@ part-read-bits-start : tie.Need-part-read-bits-start
 part-read-bits-start c = search needs
 
 part-read-bits-end : tie.Need-part-read-bits-end
-part-read-bits-end c = bits-end (c .before .before .before .before .pre)
+part-read-bits-end c = bits-end (begun (c .before .before) .pre)
 
-element-copy-out-read-bits : tie.Need-element-copy-out-read-bits
-element-copy-out-read-bits c = search needs
+element-copy-out-counted : tie.Need-element-copy-out-counted
+element-copy-out-counted c = search needs
+
+counted-requires : tie.Need-counted-requires
+counted-requires c κs = tt
 
 read-bits-requires : tie.Need-read-bits-requires
-read-bits-requires c κs = let w = c .before .before .before .before .before .before .pre in (bits-some w, bits-room w)
+read-bits-requires c κs = let w = begun (c .before .before .before .before .before) .pre in rw (c .counted .ensures .0) (bits-some w, bits-room w)
 
 allowed-values-requires : tie.Need-allowed-values-requires
 allowed-values-requires c κs = search untiled
@@ -43,7 +56,11 @@ refused-requires : tie.Need-refused-requires
 refused-requires c κs = search needs
 
 returns : tie.Need-returns
-returns c = search refused-eleven
+returns c =
+    let a = c .before .before .before .before in
+    let n = numbers a in
+    refused-eleven (begun n .pre) (n .read-numbers .ensures .0) (n .read-numbers .ensures .1) (a .before .before .counted .ensures .0) (a .before .read-bits .ensures)
+    (a .allowed-values .ensures) (c .before .before .eleven .given .1) (c .refused .ensures)
 
 enum-told : tie.Need-enum-told
 enum-told c = search needs
@@ -51,30 +68,40 @@ enum-told c = search needs
 offsets-slot-requires : tie.Need-offsets-slot-requires
 offsets-slot-requires c κs = search needs
 
-mul-offsets : tie.Need-mul-offsets
-mul-offsets c = search needs
+mul-counted : tie.Need-mul-counted
+mul-counted c = search needs
 
-element-copy-out-offsets : tie.Need-element-copy-out-offsets
-element-copy-out-offsets c = search needs
+element-copy-out-counted-2 : tie.Need-element-copy-out-counted-2
+element-copy-out-counted-2 c = search needs
+
+counted-requires-2 : tie.Need-counted-requires-2
+counted-requires-2 c κs = tt
 
 byte-counts-slot-requires : tie.Need-byte-counts-slot-requires
 byte-counts-slot-requires c κs = search needs
 
-mul-bytecounts : tie.Need-mul-bytecounts
-mul-bytecounts c = search needs
+mul-counted-2 : tie.Need-mul-counted-2
+mul-counted-2 c = search needs
 
-element-copy-out-bytecounts : tie.Need-element-copy-out-bytecounts
-element-copy-out-bytecounts c = search needs
+element-copy-out-counted-3 : tie.Need-element-copy-out-counted-3
+element-copy-out-counted-3 c = search needs
 
-element-copy-out-agreeing-tags : tie.Need-element-copy-out-agreeing-tags
-element-copy-out-agreeing-tags c = search needs
+counted-requires-3 : tie.Need-counted-requires-3
+counted-requires-3 c κs = tt
+
+element-copy-out-counted-4 : tie.Need-element-copy-out-counted-4
+element-copy-out-counted-4 c = search needs
+
+counted-requires-4 : tie.Need-counted-requires-4
+counted-requires-4 c κs = tt
 
 agreeing-tags-requires : tie.Need-agreeing-tags-requires
 agreeing-tags-requires c κs =
-    let b = c .before .before .before .before .before .before .before in
-    let n = b .before .before .before .before .before .before in
-    countable (n .before .before .pre) (n .read-numbers .ensures .0) (n .read-numbers .ensures .1) (b .before .read-bits .ensures) (b .allowed-values .ensures)
-    (c .before .before .before .before .before .enum-told .given .1)
+    let k = c .before .before .before .before .before .before .before .before in
+    let a = k .before .before in
+    let n = numbers a in
+    countable (begun n .pre) (n .read-numbers .ensures .0) (n .read-numbers .ensures .1) (a .before .before .counted .ensures .0) (a .before .read-bits .ensures)
+    (a .allowed-values .ensures) (k .enum-told .given .1)
 
 enum-known-twelve : tie.Need-enum-known-twelve
 enum-known-twelve c = search needs
@@ -83,27 +110,37 @@ refused-requires-2 : tie.Need-refused-requires-2
 refused-requires-2 c κs = search needs
 
 returns-2 : tie.Need-returns-2
-returns-2 c = search refused-twelve
+returns-2 c =
+    let d = c .before .before .before .before in
+    let s = d .before .before .before in
+    let k = kept11 d in
+    let a = k .before .before in
+    let n = numbers a in
+    refused-twelve (begun n .pre) (n .read-numbers .ensures .0) (n .read-numbers .ensures .1) (a .before .before .counted .ensures .0) (a .before .read-bits .ensures)
+    (a .allowed-values .ensures) (k .enum-told .given .1) (s .before .before .before .before .before .offsets-slot .ensures .0) (s .before .before .byte-counts-slot .ensures .0)
+    (d .before .counted4 .ensures .0) (s .before .before .before .counted2 .ensures .0) (s .counted3 .ensures .0) (d .agreeing-tags .ensures)
+    (c .before .before .twelve .given .1) (c .refused2 .ensures)
 
 enum-told-2 : tie.Need-enum-told-2
 enum-told-2 c = search needs
 
-cast-t39 : tie.Need-cast-t39
-cast-t39 c = search needs
+cast-t31 : tie.Need-cast-t31
+cast-t31 c = let n = numbers (kept11 (c .before .before .before) .before .before) in omega (arith, n .read-numbers .ensures .1 .width)
 
-cast-t40 : tie.Need-cast-t40
-cast-t40 c =
-    let b = c .before .before .before .before .before .before .before .before .before .before .before .before .before .before .before .before .before .before in
-    omega (arith, b .read-numbers .ensures .1 .length)
+cast-t39 : tie.Need-cast-t39
+cast-t39 c = let n = numbers (kept11 (c .before .before .before .before) .before .before) in omega (arith, n .read-numbers .ensures .1 .length)
 
 returns-3 : tie.Need-returns-3
 returns-3 c =
-    let d = c .before .before .before .before .before .before .before in
-    let b = d .before .before .before .before .before in
-    let n = b .before .before .before .before .before .before in
-    accepted (n .before .before .pre) (n .read-numbers .ensures .0) (n .read-numbers .ensures .1) (b .before .read-bits .ensures) (b .allowed-values .ensures)
-    (d .before .before .before .enum-told .given .1) (d .before .before .offsets-slot .ensures .0)
-    (d .byte-counts-slot .ensures .0) (c .before .before .before .before .agreeing-tags .ensures) (c .before .before .enum-told2 .given .1)
+    let d = c .before .before .before .before in
+    let s = d .before .before .before in
+    let k = kept11 d in
+    let a = k .before .before in
+    let n = numbers a in
+    accepted (begun n .pre) (n .read-numbers .ensures .0) (n .read-numbers .ensures .1) (a .before .before .counted .ensures .0) (a .before .read-bits .ensures)
+    (a .allowed-values .ensures) (k .enum-told .given .1) (s .before .before .before .before .before .offsets-slot .ensures .0) (s .before .before .byte-counts-slot .ensures .0)
+    (d .before .counted4 .ensures .0) (s .before .before .before .counted2 .ensures .0) (s .counted3 .ensures .0) (d .agreeing-tags .ensures)
+    (c .before .before .enum-told2 .given .1)
 
 pub judge-values-spec : {M : Type 1} → statement M
 judge-values-spec =
@@ -116,7 +153,8 @@ judge-values-spec =
     sub-read-bits
     part-read-bits-start
     part-read-bits-end
-    element-copy-out-read-bits
+    element-copy-out-counted
+    counted-requires
     read-bits-requires
     allowed-values-requires
     enum-known-eleven
@@ -124,17 +162,20 @@ judge-values-spec =
     returns
     enum-told
     offsets-slot-requires
-    mul-offsets
-    element-copy-out-offsets
+    mul-counted
+    element-copy-out-counted-2
+    counted-requires-2
     byte-counts-slot-requires
-    mul-bytecounts
-    element-copy-out-bytecounts
-    element-copy-out-agreeing-tags
+    mul-counted-2
+    element-copy-out-counted-3
+    counted-requires-3
+    element-copy-out-counted-4
+    counted-requires-4
     agreeing-tags-requires
     enum-known-twelve
     refused-requires-2
     returns-2
     enum-told-2
+    cast-t31
     cast-t39
-    cast-t40
     returns-3)

@@ -1,9 +1,9 @@
 -- `is_misfit` tests a tag that may be absent. Assumes nothing.
 use borrow.Author.Needs.{needs}
 use borrow.Author.Tests.{ne-eqb, eq-eqb}
-use Rattle.tags.specs.Slots.{misfit}
-use Rattle.tags.proofs.is_misfit.Statement.{statement}
-use Rattle.tags.proofs.is_misfit.Tie as tie
+use Rattle.lines.specs.Rows.{misfit}
+use Rattle.lines.proofs.is_misfit.Statement.{statement}
+use Rattle.lines.proofs.is_misfit.Tie as tie
 
 returns : tie.Need-returns
 unfolding misfit
