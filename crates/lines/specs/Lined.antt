@@ -1,4 +1,4 @@
--- What the rows of a table must satisfy, computed once for each table: row by row they say what the lines of the paper's table say, each tag is one, and 50909,
+-- What the rows of a table must satisfy, computed once for each table: row by row they say what the lines of the paper's table say, no tag is 0, and 50909,
 -- which may stand more than once, is that of the last line or of none. Assumes nothing.
 use Prim.Native.Nat.{ℕ}
 use mathlib.Core.Path.{_≡_}
@@ -15,6 +15,7 @@ use Rattle.lines.specs.Rows.{tagIn, neededIn, typeIn, otherIn, leastIn, 
 unfoldable pub lineTags : List Line → List ℕ
 lineTags tb = map (λ l. l .tag) tb
 
+-- two tests give the same
 abbrev pub same : Bool → Bool → Bool
 same true b = b
 same false b = not b
