@@ -15,10 +15,10 @@ use Rattle.paper.specs.declared.Outcome.{Outcome}
 use Rattle.paper.specs.declared.Verdict.{Verdict}
 use Rattle.paper.specs.declared.Entry.{Entry}
 use Rattle.paper.specs.Layout.{entryAt, entries, badValue, nextOffset, rule7}
-use Rattle.paper.specs.Tests.{indexOf}
+use Rattle.paper.specs.Tests.{indexOf, distinct}
 use Rattle.paper.specs.Judge.{entryRules}
 use Rattle.paper.proofs.Loops.{build-end}
-use Rattle.paper.proofs.Store.{distinct, set-index}
+use Rattle.paper.proofs.Store.{set-index}
 use Rattle.outcomes.specs.Told.{toldBy}
 use Rattle.outcomes.proofs.Back.{step-back, front, near, told-or, told-rise}
 use Rattle.layout.specs.Opening.{scannedOf, OrderedAs}

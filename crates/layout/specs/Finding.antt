@@ -6,9 +6,8 @@ use mathlib.Core.List.{List, [], _∷_}
 use lib.Dec.{eqb, ltb}
 use lib.ListN.{length, getD}
 use Rattle.paper.specs.Bytes.{build}
-use Rattle.paper.specs.Tests.{all, indexOf}
+use Rattle.paper.specs.Tests.{all, indexOf, distinct}
 use Rattle.paper.specs.Layout.{entryAt}
-use Rattle.paper.proofs.Store.{distinct}
 use Rattle.paper.specs.Tags.{absent}
 use Rattle.paper.specs.declared.Entry.{Entry}
 

@@ -12,14 +12,13 @@ use Rattle.paper.specs.Bytes.{build}
 use Rattle.paper.specs.Outcome.{breaks, firstOf, firstBad, ordered}
 use Rattle.paper.specs.Tests.{all, some, keep}
 use Rattle.paper.specs.Layout.{entryOf, behind, rule6}
-use Rattle.paper.specs.Tags.{Line, Held, find, has, tiled, lacks, rule9, fitsLine, misfits, rule10}
+use Rattle.paper.specs.Tags.{Line, Held, find, has, tiled, lacks, rule9, fitsLine, misfits, rule10, named}
 use Rattle.paper.specs.declared.Entry.{Entry}
 use Rattle.paper.specs.declared.Outcome.{Outcome}
 use Rattle.paper.specs.declared.Outcome.the-variants.{Kept as kept, Broken as broken}
 use Rattle.paper.specs.Tag
 use Rattle.paper.proofs.Laws.{and-eq}
 use Rattle.paper.proofs.Several.{tagsOf, first-or-later, rises-behind, once, tags-held, later-held}
-use Rattle.paper.proofs.Bounds.{named}
 use Rattle.layout.specs.Columns.{fieldOf, column}
 use Rattle.layout.specs.Repeats.{laterTexts, entriesFrom}
 use Rattle.lines.specs.Rows.{tagIn, neededIn, typeIn, otherIn, leastIn, mostIn, neededBy, nineOf, unlike, misfit, tenOf, misfitIn, someMisfit}
@@ -248,3 +247,12 @@ module _ {tb : List Line} {f : List ℕ} {big : Bool} {at c : ℕ} {typs counts 
     ten-is {rows} l =
         (λ i. firstOf (tenOf rows (r .columns .typs-are i) (r .columns .counts-are i) (r .columns .starts-are i) ∷ breaks (late tb) Tag.metadata ∷ []))
         ∙ ten-from rows tb (l .say) (l .tags) (l .text)
+
+    -- in a table that has no line for 50909 the entry that is found is all
+    pub ten-once : {rows : List (List ℕ)} → Lined rows tb → late tb ≡ false → tenOf rows typs counts starts ≡ rule10 tb (heldAt tb f big at c)
+    unfolding firstOf
+    ten-once {rows} l none = alone (tenOf rows typs counts starts) ∙ ap (λ (b : Bool). firstOf (tenOf rows typs counts starts ∷ breaks b Tag.metadata ∷ [])) (sym none) ∙ ten-is l
+      where
+        alone : (o : Outcome) → o ≡ firstOf (o ∷ kept ∷ [])
+        alone kept = refl
+        alone (broken p) = refl

@@ -12,11 +12,11 @@ use Rattle.paper.specs.Bytes.{run, num}
 use Rattle.paper.specs.declared.Outcome.the-variants.{Kept as kept}
 use Rattle.paper.specs.Tests.{all, some}
 use Rattle.paper.specs.Layout.{dirLen, sizeOf, typed, startOf, entryOf, entryAt, entries, rule7}
-use Rattle.paper.specs.Tags.{Line, inTable, Held, find, absent, has, bytesOf}
+use Rattle.paper.specs.Tags.{Line, inTable, Held, find, absent, has, bytesOf, named}
 use Rattle.paper.specs.declared.Entry.{Entry}
 use Rattle.paper.proofs.Laws.{all-at}
 use Rattle.paper.proofs.Loops.{findEntry, find-entry}
-use Rattle.paper.proofs.Bounds.{noLine, named, entry-inside}
+use Rattle.paper.proofs.Bounds.{noLine, entry-inside}
 use Rattle.layout.specs.Columns.{fieldOf, column}
 use Rattle.layout.specs.Finding.{placeIn}
 use Rattle.layout.proofs.Sizes.{len-of}

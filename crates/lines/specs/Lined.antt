@@ -7,8 +7,7 @@ use mathlib.Core.List.{List, [], _∷_, map}
 use lib.Dec.{eqb}
 use Rattle.paper.specs.Tests.{all}
 use Rattle.paper.specs.Tag
-use Rattle.paper.specs.Tags.{Line}
-use Rattle.paper.proofs.Bounds.{named}
+use Rattle.paper.specs.Tags.{Line, named}
 use Rattle.lines.specs.Rows.{tagIn, neededIn, typeIn, otherIn, leastIn, mostIn, neededBy}
 
 -- the tags of a table, in order

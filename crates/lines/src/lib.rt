@@ -2,7 +2,7 @@
 // columns that a pass over a directory left: where each tag's value starts, its type and its count. An absent tag has 0 in all of them.
 ghost use mathlib.Core.Path.{_≡_};
 ghost use mathlib.Core.List.{[]};
-ghost use Prim.Native.Nat.{_*_, _≤_, _<_};
+ghost use Prim.Native.Nat.{_*_, _≤_, _<_, min};
 ghost use lib.ListN.{length, getD};
 ghost use Rattle.lines.specs.Rows.{neededBy, nineOf, unlike, misfit, tenOf, someMisfit};
 use paper::Outcome;
@@ -51,13 +51,13 @@ pub fn counted(count: u32) -> usize
     count as usize
 }
 
-// So many lines are gone through in one loop, and the others in a second one: a loop over more is not unrolled, and the table would be copied to the stack
-// for it.
+// So many lines are gone through in one loop, and the others in a second one: a loop over some more is not unrolled, and the table would be copied to the
+// stack for it.
 const UNROLLED: usize = 12;
 
-// Where a table is cut in two for that.
+// Where a table of so many lines is cut in two for that.
 fn cut(many: usize) -> usize
-    ensures { λ r. ⌜ r ≤ many ⌝ }
+    ensures { λ r. ⌜ (r ≡ min many 12) × (r ≤ many) ⌝ }
 {
     if many < UNROLLED { many } else { UNROLLED }
 }

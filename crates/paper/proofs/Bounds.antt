@@ -12,7 +12,7 @@ use Rattle.paper.specs.Bytes.{num, build}
 use Rattle.paper.specs.Outcome.{kept}
 use Rattle.paper.specs.Layout.{odd, dirLen, sizes, sizeOf, typed, badValue, entryAt, entryOf, startOf, entries, rule4, rule5, rule7}
 use Rattle.paper.specs.Tests.{all}
-use Rattle.paper.specs.Tags.{Line, line, table, no, any, has, fitsLine, misfits, rule10, Held, find, absent, listed, inTable}
+use Rattle.paper.specs.Tags.{Line, line, table, named, no, any, has, fitsLine, misfits, rule10, Held, find, absent, listed, inTable}
 use Rattle.paper.proofs.Loops.{findEntry}
 use Rattle.paper.proofs.Laws.{breaks-kept, or-false, and-eq, kept-all, all-at, none-at, length-build, getD-build}
 use Rattle.paper.specs.declared.Entry.{Entry}
@@ -145,10 +145,6 @@ size-past k h = List·getD-eq-default sizes 0 h
 
 abbrev pub noLine : Line
 noLine = line 0 no 0 0 0 0 any
-
--- no line has tag 0, which stands for an absent entry
-unfoldable pub named : Line → Bool
-named l = not (eqb 0 (l .tag))
 
 pub table-named : all named table ≡ true
 unfolding all named table

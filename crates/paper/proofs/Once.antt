@@ -13,13 +13,13 @@ use Rattle.paper.specs.Outcome.{Outcome, kept, broken, firstBad, ordered
 use Rattle.paper.specs.Tests.{some, keep}
 use Rattle.paper.specs.Layout.{behind, rule6, rule7}
 use Rattle.paper.specs.Tag
-use Rattle.paper.specs.Tags.{Line, table, Held, hold, absent, find, has, rule27, rule9, fitsLine, misfits, rule10, rule11, rule12}
+use Rattle.paper.specs.Tags.{Line, table, Held, hold, absent, find, has, rule27, rule9, fitsLine, misfits, rule10, rule11, rule12, named}
 use Rattle.paper.specs.Judge.{Head, View, fullOf, entryRules, tableRules, pieceRules, pictureRules, headIn, entriesIn, viewAt, view}
 use Rattle.paper.specs.Judge.{headStage, offsetStage, countStage, entryStage, directoryStage, nextStage, pictureStage, surveyStage, imageStage, verdictOf}
 use Rattle.paper.specs.Calls.{accepts, answer, textsIn, rule29, textIn, textOf}
 use Rattle.paper.specs.Places.{Pair, pairsFrom, pairs}
 use Rattle.paper.proofs.Laws.{or-false, first-same, all-at}
-use Rattle.paper.proofs.Bounds.{noLine, named, table-named}
+use Rattle.paper.proofs.Bounds.{noLine, table-named}
 use Rattle.paper.proofs.Keeps.{rule6-kept}
 use Rattle.paper.proofs.Several.{tagsOf, first-of, present, rises-strict, rises-behind, no-other, once, tags-held, rising}
 use Rattle.paper.specs.declared.Verdict.{Verdict}

@@ -2,7 +2,7 @@
 -- of candidates, and over any list of rules that have numbers of their own. Assumes nothing.
 use Prim.Native.Nat.{ℕ, zero, suc, _+_, _≤_, _<_}
 use mathlib.Core.Path.{_≡_, refl, sym, ap, _∙_, subst}
-use mathlib.Core.Bool.{Bool, true, false, cond, not, _&&_, false≢true}
+use mathlib.Core.Bool.{Bool, true, false, cond, not, false≢true}
 use mathlib.Core.List.{List, [], _∷_, _++_, map}
 use native.Mathlib.Omega.{arith}
 use lib.Dec.{eqb, ltb}
@@ -10,7 +10,7 @@ use lib.ListN.{length}
 use borrow.Author.Tests.{eqb-true, eqb-false, ltb-true, not-true}
 use Rattle.paper.specs.Bytes.{build}
 use Rattle.paper.specs.Outcome.{Outcome, kept, broken, breaks, firstOf, Fault, firstThere, firstBad, ascendingFrom, ascending, Rule, first, verdict, ordered, orderedFrom}
-use Rattle.paper.specs.Tests.{all}
+use Rattle.paper.specs.Tests.{notIn, distinct}
 use Rattle.paper.specs.Layout.{behind, rule1, rule2, rule3, rule4, rule5, rule6, rule7, rule8}
 use Rattle.paper.specs.Tags.{Held, table, tiled, disagreements, rule27, rule9, rule10, rule11, rule12}
 use Rattle.paper.specs.Pieces.{Piece, placeAt, placesOf, pieces, rule13, rule14}
@@ -174,11 +174,6 @@ first-fall follows (a ∷ bs) p h = first-fault (outOfOrder follows) _ (pairsFro
 
 -- ---- from the verdict to the rule that has its number
 
--- no number stands twice
-unfoldable distinct : List ℕ → Bool
-distinct [] = true
-distinct (n ∷ ns) = all (λ m. not (eqb m n)) ns && distinct ns
-
 abbrev numbersOf : List Rule → List ℕ
 numbersOf rs = map (λ r. r .number) rs
 
@@ -188,28 +183,27 @@ outcomeIn k [] = kept
 outcomeIn k (r ∷ rs) = cond (eqb (r .number) k) (r .outcome) (outcomeIn k rs)
 
 -- a number that no rule has is not the verdict's
-unnumbered : (rs : List Rule) (k p : ℕ) → all (λ m. not (eqb m k)) (numbersOf rs) ≡ true → first rs ≡ verdict k p → k ≡ 0
-unfolding first all
+unnumbered : (rs : List Rule) (k p : ℕ) → notIn k (numbersOf rs) ≡ true → first rs ≡ verdict k p → k ≡ 0
+unfolding first
 unnumbered [] k p a h = sym (ap (λ (v : Verdict). v .number) h)
-unnumbered (r ∷ rs) k p a h = go (r .outcome) refl (unnumbered rs k p (and-eq (not (eqb (r .number) k)) _ a .1))
+unnumbered (r ∷ rs) k p a h = go (r .outcome) refl (unnumbered rs k p (and-eq (not (eqb k (r .number))) _ a .1))
   where
     go : (o : Outcome) → r .outcome ≡ o → (first rs ≡ verdict k p → k ≡ 0) → k ≡ 0
     go kept e s = s (rw e at h)
     go (broken q) e s =
         let w : verdict (r .number) q ≡ verdict k p = rw e at h in
-        absurd (eqb-false _ _ (not-true _ (and-eq (not (eqb (r .number) k)) _ a .0)) (ap (λ (v : Verdict). v .number) w))
+        absurd (eqb-false _ _ (not-true _ (and-eq (not (eqb k (r .number))) _ a .0)) (sym (ap (λ (v : Verdict). v .number) w)))
 
 rule-broken : (rs : List Rule) (k p : ℕ) → distinct (numbersOf rs) ≡ true → eqb k 0 ≡ false → first rs ≡ verdict k p → outcomeIn k rs ≡ broken p
-unfolding distinct outcomeIn first
+unfolding outcomeIn first
 rule-broken [] k p d n h = absurd (eqb-false k 0 n (sym (ap (λ (v : Verdict). v .number) h)))
-rule-broken (r ∷ rs) k p d n h = go (eqb (r .number) k) refl (r .outcome) refl (rule-broken rs k p (and-eq (all (λ m. not (eqb m (r .number))) (numbersOf rs)) _ d .1) n)
+rule-broken (r ∷ rs) k p d n h = go (eqb (r .number) k) refl (r .outcome) refl (rule-broken rs k p (and-eq (notIn (r .number) (numbersOf rs)) _ d .1) n)
   where
     go : (b : Bool) → eqb (r .number) k ≡ b → (o : Outcome) → r .outcome ≡ o → (first rs ≡ verdict k p → outcomeIn k rs ≡ broken p)
         → outcomeIn k (r ∷ rs) ≡ broken p
     go true e kept q s =
         let w : first rs ≡ verdict k p = rw q at h in
-        let a : all (λ m. not (eqb m k)) (numbersOf rs) ≡ true =
-        subst (λ (j : ℕ). all (λ m. not (eqb m j)) (numbersOf rs) ≡ true) (eqb-true _ _ e) (and-eq (all (λ m. not (eqb m (r .number))) (numbersOf rs)) _ d .0) in
+        let a : notIn k (numbersOf rs) ≡ true = subst (λ (j : ℕ). notIn j (numbersOf rs) ≡ true) (eqb-true _ _ e) (and-eq (notIn (r .number) (numbersOf rs)) _ d .0) in
         absurd (eqb-false k 0 n (unnumbered rs k p a w))
     go true e (broken x) q s =
         let w : verdict (r .number) x ≡ verdict k p = rw q at h in
@@ -254,7 +248,7 @@ opened = tt
 
 module _ (f : List ℕ) where
   outcome : (k p : ℕ) → eqb k 0 ≡ false → verdictOf f ≡ verdict k p → outcomeIn k (rules f) ≡ broken p
-  unfolding opened distinct all
+  unfolding opened
   outcome k p n h = rule-broken (rules f) k p refl n (sym (verdict-rules f) ∙ h)
 
   -- the rules that give no place, in the order of `placeless`

@@ -1,21 +1,13 @@
 -- A store at the place of a number in a table of distinct numbers changes what stands for that number, and nothing else. Assumes nothing.
 use Prim.Native.Nat.{ℕ}
 use mathlib.Core.Path.{_≡_, refl, ap}
-use mathlib.Core.Bool.{Bool, true, false, cond, not, _&&_}
+use mathlib.Core.Bool.{Bool, true, false, cond}
 use mathlib.Core.List.{List, [], _∷_, map}
 use lib.Dec.{eqb}
 use lib.ListN.{set}
 use borrow.Author.Tests.{eqb-true}
-use Rattle.paper.specs.Tests.{indexOf}
+use Rattle.paper.specs.Tests.{indexOf, notIn, distinct}
 use Rattle.paper.proofs.Laws.{and-eq}
-
-abbrev pub notIn : ℕ → List ℕ → Bool
-notIn x [] = true
-notIn x (y ∷ ys) = not (eqb x y) && notIn x ys
-
-abbrev pub distinct : List ℕ → Bool
-distinct [] = true
-distinct (y ∷ ys) = notIn y ys && distinct ys
 
 unchanged : (x v : ℕ) (f : ℕ → ℕ) (ts : List ℕ) → notIn x ts ≡ true → map f ts ≡ map (λ t. cond (eqb x t) v (f t)) ts
 unchanged x v f [] h = refl

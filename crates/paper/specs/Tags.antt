@@ -93,6 +93,10 @@ table =
     ∷ line Tag.metadata no BYTE BYTE 1 more any
     ∷ []
 
+-- a line of a table has a tag other than 0, which stands for an absent entry
+unfoldable pub named : Line → Bool
+named l = not (eqb 0 (l .tag))
+
 unfoldable pub inTable : List Line → ℕ → Bool
 inTable tb t = some (λ l. eqb (l .tag) t) tb
 

@@ -1,6 +1,6 @@
 -- Tests over lists, and the values that a table allows. Assumes nothing.
 use Prim.Native.Nat.{ℕ, suc}
-use mathlib.Core.Bool.{Bool, true, false, cond, _&&_, _||_}
+use mathlib.Core.Bool.{Bool, true, false, cond, not, _&&_, _||_}
 use mathlib.Core.List.{List, [], _∷_}
 use lib.Dec.{eqb, leb}
 
@@ -20,6 +20,15 @@ keep is (x ∷ xs) = cond (is x) (x ∷ keep is xs) (keep is xs)
 unfoldable pub indexOf : ℕ → List ℕ → ℕ
 indexOf x [] = 0
 indexOf x (y ∷ ys) = cond (eqb x y) 0 (suc (indexOf x ys))
+
+-- a number that is none of a list's, and a list in which none stands twice
+abbrev pub notIn : ℕ → List ℕ → Bool
+notIn x [] = true
+notIn x (y ∷ ys) = not (eqb x y) && notIn x ys
+
+abbrev pub distinct : List ℕ → Bool
+distinct [] = true
+distinct (y ∷ ys) = notIn y ys && distinct ys
 
 -- ---- which values are allowed: those in one of some ranges
 

@@ -3,19 +3,17 @@
 use Prim.Native.Nat.{ℕ}
 use mathlib.Core.Path.{_≡_, refl, sym, ap, ap₂, _∙_}
 use mathlib.Core.Bool.{Bool, true, false}
-use mathlib.Core.List.{List, [], _∷_}
+use mathlib.Core.List.{List}
 use lib.ListN.{length}
 use Rattle.paper.specs.Bytes.{run}
-use Rattle.paper.specs.Outcome.{first, verdict, _▷_, firstOf, orElse}
+use Rattle.paper.specs.Outcome.{first, verdict, _▷_, orElse}
 use Rattle.paper.specs.Tests.{all}
 use Rattle.paper.specs.Layout.{dirLen, entries}
-use Rattle.paper.specs.Tags.{Held, tiled}
+use Rattle.paper.specs.Tags.{Held, tiled, named}
 use Rattle.paper.specs.Judge.{headIn, viewAt}
 use Rattle.paper.specs.declared.Outcome.{Outcome}
-use Rattle.paper.specs.declared.Outcome.the-variants.{Kept as kept, Broken as broken}
 use Rattle.paper.specs.declared.Verdict.{Verdict}
 use Rattle.paper.proofs.First.{chain-zero, chain-stop}
-use Rattle.paper.proofs.Bounds.{named}
 use Rattle.layout.specs.Columns.{Columns}
 use Rattle.layout.specs.Opening.{headedOf, openedOf, scannedOf, LaidAt}
 use Rattle.layout.specs.declared.Headed.the-variants.{Bad, Good}
@@ -26,7 +24,7 @@ use Rattle.lines.specs.Rows.{neededIn, neededBy, nineOf, tenOf}
 use Rattle.lines.specs.Lined.{lineTags, same, allSay, textLast, Lined}
 use Rattle.lines.specs.Ready.{heldAt, Ready}
 use Rattle.lines.proofs.Laid.{held-are, six-is, ready}
-use Rattle.lines.proofs.Ruled.{nine-either, nine-is, ten-is}
+use Rattle.lines.proofs.Ruled.{nine-either, nine-is, ten-once}
 use Rattle.trial.specs.Trial.{trial, trialStage, trialOf}
 
 -- what follows rules 1 to 7
@@ -43,12 +41,6 @@ pub opened-bad : (f : List ℕ) {big : Bool} {at : ℕ} → headedOf f ≡ Good 
     → verdict k p ≡ trialOf f
 unfolding trialOf
 opened-bad f good e = sym (open-refuses f (behind7 f) good e .is)
-
--- an outcome, with a kept one behind it
-one : (o : Outcome) → firstOf (o ∷ kept ∷ []) ≡ o
-unfolding firstOf
-one kept = refl
-one (broken p) = refl
 
 -- what the pass over the directory answered
 module _ {f : List ℕ} {big : Bool} {at c : ℕ} (o : LaidAt f big at c) {s : Scanned}
@@ -70,5 +62,5 @@ module _ {f : List ℕ} {big : Bool} {at c : ℕ} (o : LaidAt f big at c) {s : S
       let known : Ready trial f big at c typs counts starts lens = ready o so z refl columns in
       let lined : Lined rows trial = record { say = say; tags = refl; text = refl } in
       let nine = nine-either rows either false (tiled (heldAt trial f big at c)) starts ∙ nine-is known lined in
-      let ten = sym (one (tenOf rows typs counts starts)) ∙ ten-is known (six-is o so z) lined in
+      let ten = ten-once known (six-is o so z) lined refl in
       ap₂ (λ (a b : Outcome). orElse 9 a (orElse 10 b (verdict 0 0))) nine ten ∙ sym (to-scan ∙ chain-zero (s .verdict) _ z)

@@ -12,7 +12,7 @@ cut-requires : tie.Need-cut-requires
 cut-requires c κs = search needs
 
 slice-aggregate-misfit-line : tie.Need-slice-aggregate-misfit-line
-slice-aggregate-misfit-line c = sym (length-take-le _ _ (c .before .cut .ensures))
+slice-aggregate-misfit-line c = sym (length-take-le _ _ (c .before .cut .ensures .1))
 
 misfit-line-requires : tie.Need-misfit-line-requires
 misfit-line-requires c κs = simp length-take (omega arith)

@@ -12,7 +12,7 @@ cut-requires : tie.Need-cut-requires
 cut-requires c κs = search needs
 
 slice-aggregate-absent-line : tie.Need-slice-aggregate-absent-line
-slice-aggregate-absent-line c = sym (length-take-le _ _ (c .before .cut .ensures))
+slice-aggregate-absent-line c = sym (length-take-le _ _ (c .before .cut .ensures .1))
 
 absent-line-requires : tie.Need-absent-line-requires
 absent-line-requires c κs = simp length-take (omega arith)

@@ -17,6 +17,16 @@ use borrow.Author.Needs.{needs}
 use Rattle.trial.proofs.trial_laid.Statement.{statement}
 use Rattle.trial.proofs.trial_laid.Tie as tie
 
+-- where the function starts, from the pass over the directory; where that pass is, from behind it; and where rules 6 and 7 are kept
+abbrev begun : tie.After-scan → tie.Start
+begun c = c .before .before .before .before .before .before .before .before .before
+
+abbrev scanned : tie.After-struct-known → tie.After-scan
+scanned c = c .before .before .before .before .before
+
+abbrev kept7 : tie.After-needed-tags → tie.Else1
+kept7 c = c .before .before .before
+
 mul-len : tie.Need-mul-len
 mul-len c = omega (arith, scan-asked (c .before .pre))
 
@@ -68,8 +78,9 @@ scan-requires c κs =
 
 returns : tie.Need-returns
 returns c =
-    let o = c .before .before .before .before .before .before .before .before .before .before .before .before .before .before .before .before .pre in
-    let s = rw (part-cut o) at (c .before .before .before .before .before .before .before .scan .ensures) in
+    let p = scanned (c .before .before) in
+    let o = begun p .pre in
+    let s = rw (part-cut o) at (p .scan .ensures) in
     scan-bad o (s .0) (c .before .if1 .taken)
 
 slice-aggregate-needed-tags : tie.Need-slice-aggregate-needed-tags
@@ -106,11 +117,13 @@ or-else-requires-2 c κs = search needs
 returns-2 : tie.Need-returns-2
 unfolding slotTags build indexOf lineTags trial allSay says neededBy all
 returns-2 c =
-    let l = c .before .before .before .before .before .before .before .before .before .before in
-    let o = l .before .before .before .before .before .before .before .before .before .before .before .before .before .before .before .pre in
-    let s = rw (part-cut o) at (l .before .before .before .before .before .before .scan .ensures) in
-    rw (c .or-else2 .ensures, c .before .or-else .ensures, c .before .before .before .before .before .before .before .needed-tags .ensures, c .before .before .fitting-tags .ensures)
-    (ruled o (s .0) (l .if1 .left) (s .1) _ refl refl)
+    let t = c .before .before in
+    let n = t .before .before .before .before .before in
+    let k = kept7 n in
+    let p = scanned (k .before) in
+    let o = begun p .pre in
+    let s = rw (part-cut o) at (p .scan .ensures) in
+    rw (c .or-else2 .ensures, c .before .or-else .ensures, n .needed-tags .ensures, t .fitting-tags .ensures) (ruled o (s .0) (k .if1 .left) (s .1) _ refl refl)
 
 pub trial-laid-spec : {M : Type 1} → statement M
 trial-laid-spec =
