@@ -1,5 +1,8 @@
--- The tags of the table, each number once, under the documents' words. The table itself is in `Tags`. Assumes nothing.
+-- The tags of the tables, each number once, under the documents' words. The tables themselves are in `Tags`. Assumes nothing.
 use Prim.Native.Nat.{ℕ}
+
+abbrev pub subfile : ℕ
+subfile = 254
 
 abbrev pub width : ℕ
 width = 256

@@ -1,5 +1,5 @@
--- Document 01, the table of tags, with request C-11's tags of tiles, and rules 27 and 9 to 12, rule 10 as request C-12 leaves it. From here on a rule sees the value bytes of the table's
--- tags, which are runs of the file. `tb` is a table and `hs` are the entries of a directory, so that another kind of directory may have a table of its
+-- Document 01, the table of tags, with request C-11's tags of tiles, that of a mask by request C-14, and rules 27 and 9 to 12, rule 10 as request C-12
+-- leaves it. From here on a rule sees the value bytes of the table's tags, which are runs of the file. `tb` is a table and `hs` are the entries of a directory, so that another kind of directory may have a table of its
 -- own. Assumes nothing.
 use Prim.Native.Nat.{ℕ, _+_, _-_, _*_, _/_, _%_}
 use mathlib.Core.Bool.{Bool, true, false, cond, not, _&&_, _||_}
@@ -68,15 +68,24 @@ any v = true
 unfoldable pub sixteens : ℕ → Bool
 sixteens v = ltb 0 v && eqb (v % 16) 0
 
-unfoldable pub table : List Line
-table =
-    line Tag.width yes SHORT LONG 1 1 (allows (between 1 1000000 ∷ []))
-    ∷ line Tag.length yes SHORT LONG 1 1 (allows (between 1 1000000 ∷ []))
-    ∷ line Tag.bits yes SHORT SHORT 1 more (allows (just 1 ∷ just 8 ∷ just 16 ∷ just 32 ∷ []))
+-- which values the tags of a picture may have, where one kind of picture differs from another
+pub record Values : Type 0 where
+  pub width : ℕ → Bool
+  pub length : ℕ → Bool
+  pub bits : ℕ → Bool
+  pub photometric : ℕ → Bool
+  pub samples : ℕ → Bool
+
+-- the lines of a picture's tags, in front of the others that a table has
+abbrev pub pictureLines : Values → List Line → List Line
+pictureLines v others =
+    line Tag.width yes SHORT LONG 1 1 (v .width)
+    ∷ line Tag.length yes SHORT LONG 1 1 (v .length)
+    ∷ line Tag.bits yes SHORT SHORT 1 more (v .bits)
     ∷ line Tag.compression yes SHORT SHORT 1 1 (allows (just 1 ∷ just 2 ∷ just 32773 ∷ []))
-    ∷ line Tag.photometric yes SHORT SHORT 1 1 (allows (between 0 3 ∷ []))
+    ∷ line Tag.photometric yes SHORT SHORT 1 1 (v .photometric)
     ∷ line Tag.stripOffsets inStrips SHORT LONG 1 more any
-    ∷ line Tag.samples yes SHORT SHORT 1 1 (allows (between 1 8 ∷ []))
+    ∷ line Tag.samples yes SHORT SHORT 1 1 (v .samples)
     ∷ line Tag.rowsPerStrip inStrips SHORT LONG 1 1 (allows (between 1 more ∷ []))
     ∷ line Tag.stripByteCounts inStrips SHORT LONG 1 more any
     ∷ line Tag.planar no SHORT SHORT 1 1 (allows (just 1 ∷ []))
@@ -84,14 +93,45 @@ table =
     ∷ line Tag.tileLength inTiles SHORT LONG 1 1 sixteens
     ∷ line Tag.tileOffsets inTiles LONG LONG 1 more any
     ∷ line Tag.tileByteCounts inTiles SHORT LONG 1 more any
-    ∷ line Tag.scale no DOUBLE DOUBLE 3 3 any
+    ∷ others
+
+abbrev pub imageValues : Values
+imageValues =
+    record {
+      width = allows (between 1 1000000 ∷ []);
+      length = allows (between 1 1000000 ∷ []);
+      bits = allows (just 1 ∷ just 8 ∷ just 16 ∷ just 32 ∷ []);
+      photometric = allows (between 0 3 ∷ []);
+      samples = allows (between 1 8 ∷ []);
+    }
+
+-- the image's table
+unfoldable pub table : List Line
+table =
+    pictureLines imageValues
+    (line Tag.scale no DOUBLE DOUBLE 3 3 any
     ∷ line Tag.tiepoint no DOUBLE DOUBLE 6 6 any
     ∷ line Tag.matrix no DOUBLE DOUBLE 16 16 any
     ∷ line Tag.keyDirectory yes SHORT SHORT 4 more any
     ∷ line Tag.doubles no DOUBLE DOUBLE 1 more any
     ∷ line Tag.characters no ASCII ASCII 1 more any
     ∷ line Tag.metadata no BYTE BYTE 1 more any
-    ∷ []
+    ∷ [])
+
+-- The table of a mask, whose image has width w and length l. A mask's refusal shows the number of a rule and no tag, so that no answer depends on the order
+-- of the lines, and 254 may stand behind the lines that both tables have.
+abbrev pub maskValues : ℕ → ℕ → Values
+maskValues w l =
+    record {
+      width = allows (just w ∷ []);
+      length = allows (just l ∷ []);
+      bits = allows (just 1 ∷ []);
+      photometric = allows (just 4 ∷ []);
+      samples = allows (just 1 ∷ []);
+    }
+
+unfoldable pub maskTable : ℕ → ℕ → List Line
+maskTable w l = pictureLines (maskValues w l) (line Tag.subfile yes LONG LONG 1 1 (allows (just 4 ∷ [])) ∷ [])
 
 -- a line of a table has a tag other than 0, which stands for an absent entry
 unfoldable pub named : Line → Bool
