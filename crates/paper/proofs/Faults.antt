@@ -47,7 +47,7 @@ layout =
     ∷ refused (twice 14 (enc 4 0) 62 (enc 4 0)) 7 256
     ∷ refused (twice 62 (enc 4 0) 126 (enc 4 159)) 7 262
     ∷ refused (twice 126 (enc 4 6) 138 (enc 4 224)) 7 33550
-    -- the key directory ends past n, next offset 8: 7 stands before 8
+    -- the key directory ends past n, next offset 8: 7 stands before 28
     ∷ refused (twice 150 (enc 4 240) 154 (enc 4 8)) 7 34735
     ∷ []
 

@@ -10,8 +10,8 @@ use lib.ListN.{length, getD}
 use borrow.Author.Tests.{eq-eqb, ne-eqb, leb-true, eqb-true, eqb-false}
 use Rattle.paper.specs.Outcome.{Outcome, kept, broken, Rule, _▸_, first, verdict, _▷_}
 use Rattle.paper.specs.Tests.{all}
-use Rattle.paper.specs.Judge.{Head, headIn, view, countIn, nextIn, headRun, verdictOf, rules}
-use Rattle.paper.specs.Judge.{headStage, offsetStage, countStage, entryStage, directoryStage, nextStage, pictureStage, surveyStage, imageStage}
+use Rattle.paper.specs.Judge.{Head, headIn, view, countIn, nextIn, headRun, verdictOf, rules, maskHead, maskPictureRules, maskRules, maskVerdict, rule28}
+use Rattle.paper.specs.Judge.{headStage, offsetStage, countStage, entryStage, directoryStage, nextStage, pictureStage, surveyStage, imageStage, fileStage, maskStage}
 use Rattle.paper.specs.Keys.{keyRules}
 use Rattle.paper.specs.Judge.{headRules, offsetRules, countRules, entryRules, directoryRules, nextRules, tableRules, pieceRules, pictureRules, groundRules, surveyRules}
 use Rattle.paper.specs.Asked.{AllKept, FirstBroken, noRule}
@@ -120,7 +120,7 @@ chain-turn a b c = go (eqb (a .number) 0) refl
 
 -- opens the rules of a file: `unfolding ruled` makes of `rules f` a list of twenty-three
 unfoldable pub ruled : Unit {0}
-unfolding rules headRules directoryRules offsetRules countRules entryRules nextRules pictureRules tableRules pieceRules surveyRules keyRules groundRules
+unfolding rules headRules directoryRules offsetRules countRules entryRules pictureRules tableRules pieceRules surveyRules keyRules groundRules
 ruled = tt
 
 directory-rules : (f : List ℕ) (h : Head) → directoryStage f h ≡ first (directoryRules f h)
@@ -130,17 +130,22 @@ directory-rules f h =
     (first-append (offsetRules h) _ refl
     ∙ ap (λ (v : Verdict). offsetStage h ▷ v) (first-append (countRules h (countIn f h)) _ refl))
 
+-- the image's rules, then those of the survey and of the mask
+pub verdict-turned : (f : List ℕ) → verdictOf f ≡ imageStage f ▷ (surveyStage (view f) ▷ maskStage f)
+unfolding verdictOf fileStage
+verdict-turned f = chain-turn (imageStage f) (surveyStage (view f)) (maskStage f)
+
 pub verdict-rules : (f : List ℕ) → verdictOf f ≡ first (rules f)
-unfolding verdictOf imageStage headStage nextStage pictureStage surveyStage ruled all
+unfolding imageStage headStage pictureStage surveyStage maskStage ruled all
 verdict-rules f =
-    chain-turn (headStage f) _ _
+    verdict-turned f
+    ∙ chain-turn (headStage f) _ _
     ∙ ap (λ (v : Verdict). headStage f ▷ v)
     (chain-turn (directoryStage f (headIn f)) _ _
     ∙ ap (λ (v : Verdict). directoryStage f (headIn f) ▷ v)
-    (chain-turn (nextStage f) _ _
-    ∙ ap (λ (v : Verdict). nextStage f ▷ v) (sym (first-append (pictureRules (view f)) _ refl))
-    ∙ sym (first-append (nextRules (nextIn f (headIn f))) _ refl))
-    ∙ ap (λ (v : Verdict). v ▷ first (nextRules (nextIn f (headIn f)) ++ (pictureRules (view f) ++ surveyRules (view f)))) (directory-rules f (headIn f))
+    (ap (λ (v : Verdict). pictureStage (view f) ▷ v) (sym (first-append (surveyRules (view f)) _ refl))
+    ∙ sym (first-append (pictureRules (view f)) _ refl))
+    ∙ ap (λ (v : Verdict). v ▷ first (pictureRules (view f) ++ (surveyRules (view f) ++ (28 ▸ rule28 f ∷ [])))) (directory-rules f (headIn f))
     ∙ sym (first-append (directoryRules f (headIn f)) _ refl))
     ∙ sym (first-append (headRules (length f) (headRun f)) _ refl)
 
@@ -148,3 +153,17 @@ verdict-rules f =
 pub all-kept : (f : List ℕ) → verdictOf f .number ≡ 0 → AllKept (rules f)
 unfolding ruled all
 all-kept f z = kept-first (rules f) refl (ap (λ (v : Verdict). v .number) (sym (verdict-rules f)) ∙ z)
+
+-- ---- the judgement of a mask
+
+-- opens the rules of a mask
+unfoldable pub mask-ruled : Unit {0}
+unfolding maskRules directoryRules offsetRules countRules entryRules nextRules maskPictureRules tableRules
+mask-ruled = tt
+
+pub mask-rules : (f : List ℕ) → maskVerdict f ≡ first (maskRules f)
+unfolding maskVerdict nextStage mask-ruled all
+mask-rules f =
+    ap (λ (v : Verdict). directoryStage f (maskHead f) ▷ v) (sym (first-append (nextRules (nextIn f (maskHead f))) (maskPictureRules f) refl))
+    ∙ ap (λ (v : Verdict). v ▷ first (nextRules (nextIn f (maskHead f)) ++ maskPictureRules f)) (directory-rules f (maskHead f))
+    ∙ sym (first-append (directoryRules f (maskHead f)) _ refl)

@@ -14,8 +14,9 @@ use Rattle.paper.specs.Tags.{Line, line, table, inTable, Held, listed, h
 use Rattle.paper.specs.Tags.{stripTags, tileTags, hasSome, rule27, roundedUp, pieceCount, lacks, rule9, fitsLine, misfits, rule10, disallowed, rule11, rule12}
 use Rattle.paper.specs.Pieces.{Part, part, valueParts, fullList, Piece, placesOf, pieces, rule13, rule14}
 use Rattle.paper.specs.Judge.{Head, View, runsOf, surveyOf, piecesOf, fullOf, headIn, countIn, entriesIn, viewAt, view}
-use Rattle.paper.specs.Judge.{tableRules, pieceRules, pictureRules, surveyRules, headStage, directoryStage, nextStage, pictureStage, surveyStage, imageStage, verdictOf}
+use Rattle.paper.specs.Judge.{tableRules, pieceRules, pictureRules, surveyRules, headStage, directoryStage, pictureStage, surveyStage, imageStage, maskStage, verdictOf}
 use Rattle.paper.proofs.Laws.{or-false, and-eq}
+use Rattle.paper.proofs.First.{verdict-turned}
 use Rattle.paper.proofs.Several.{none-bad}
 use Rattle.paper.specs.declared.Verdict.{Verdict}
 use Rattle.paper.specs.declared.Entry.{Entry}
@@ -86,7 +87,7 @@ rulesBefore v =
 unfoldable pub verdictBefore : List ℕ → Verdict
 verdictBefore f =
     let v : View = viewAt tableBefore f (headIn f) in
-    (headStage f ▷ (directoryStage f (headIn f) ▷ (nextStage f ▷ first (rulesBefore v)))) ▷ surveyStage v
+    (headStage f ▷ (directoryStage f (headIn f) ▷ first (rulesBefore v))) ▷ (surveyStage v ▷ maskStage f)
 
 -- some entry has one of the tags
 unfoldable pub carries : List ℕ → List Entry → Bool
@@ -259,8 +260,9 @@ module _ (f : List ℕ) (no-tile : carries tileTags (entriesIn f (headIn f)) ≡
   survey-same = refl
 
   pub verdict-kept : verdictOf f ≡ verdictBefore f
-  unfolding verdictOf imageStage verdictBefore viewAt viewed held
+  unfolding imageStage verdictBefore viewAt viewed held
   verdict-kept =
-      (λ i. (headStage f ▷ (directoryStage f (headIn f) ▷ (nextStage f ▷ rules-same i))) ▷ survey-same i)
-      ∙ ap (λ (hs : List Held). (headStage f ▷ (directoryStage f (headIn f) ▷ (nextStage f ▷ first (rulesBefore (viewed hs))))) ▷ surveyStage (viewed hs))
+      verdict-turned f
+      ∙ (λ i. (headStage f ▷ (directoryStage f (headIn f) ▷ rules-same i)) ▷ (survey-same i ▷ maskStage f))
+      ∙ ap (λ (hs : List Held). (headStage f ▷ (directoryStage f (headIn f) ▷ first (rulesBefore (viewed hs)))) ▷ (surveyStage (viewed hs) ▷ maskStage f))
       (held-same f (entriesIn f (headIn f)) no-tile)

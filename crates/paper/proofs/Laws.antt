@@ -1,7 +1,7 @@
 -- Laws of the general definitions, each shown once: runs, numbers of w bytes, built lists, the first bad element. Assumes nothing.
 use Prim.Native.Nat.{ℕ, zero, suc, _+_, _-_, _*_, _/_, _%_, _^_, _≤_, _<_, min, zero-le, suc-le-suc}
 use mathlib.Core.Path.{_≡_, refl, sym, ap, ap₂, _∙_, subst}
-use mathlib.Core.Bool.{Bool, true, false, cond, _||_, _&&_}
+use mathlib.Core.Bool.{Bool, true, false, cond, _||_, _&&_, or-assoc}
 use mathlib.Core.List.{List, [], _∷_, _++_}
 use native.Mathlib.Nat.{add-zero, zero-add, suc-add, pow-suc, mul-le-mul-right, zero-sub, sub-zero, suc-sub-suc, le-of-suc-le-suc, not-suc-le-zero}
 use native.Mathlib.Omega.{arith}
@@ -213,3 +213,8 @@ unfolding some
 none-at is [] d h i l = absurd (not-suc-le-zero l)
 none-at is (x ∷ xs) d h zero l = or-false (is x) (some is xs) h .0
 none-at is (x ∷ xs) d h (suc i) l = none-at is xs d (or-false (is x) (some is xs) h .1) i (le-of-suc-le-suc l)
+
+pub some-append : {A : Type 0} (is : A → Bool) (xs ys : List A) → some is (xs ++ ys) ≡ some is xs || some is ys
+unfolding some
+some-append is [] ys = refl
+some-append is (x ∷ xs) ys = ap (λ (b : Bool). is x || b) (some-append is xs ys) ∙ sym (or-assoc (is x) (some is xs) (some is ys))

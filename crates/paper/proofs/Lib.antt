@@ -21,6 +21,7 @@ pub mod Kept
 pub mod Several
 pub mod Once
 pub mod Minor
+pub mod Alone
 pub mod Citation
 pub mod Metadata
 pub mod Texts

@@ -156,8 +156,8 @@ examples =
     ∷ refused [] 1 0
     -- 4D 4D at the start
     ∷ refused (changed 0 (0x4D ∷ 0x4D ∷ [])) 3 0
-    -- next offset 8
-    ∷ refused (changed 154 (enc 4 8)) 8 0
+    -- next offset 8: the image's own directory as a mask, with that next offset
+    ∷ refused (changed 154 (enc 4 8)) 28 8
     -- strip at 263, and at 261
     ∷ refused (changed 78 (enc 2 263)) 13 0
     ∷ refused (changed 78 (enc 2 261)) 14 0
@@ -229,16 +229,19 @@ unfolding count2
 dir150 = count2 ++ part 8 150 ∷ []
 
 -- the values of A behind the width: eight more in their entries, then scale, tiepoint and key directory
+inside : List Part
+inside = part 30 2 ∷ part 42 2 ∷ part 54 2 ∷ part 66 2 ∷ part 78 2 ∷ part 90 2 ∷ part 102 2 ∷ part 114 2 ∷ []
+
 others : List Part
-others =
-    part 30 2 ∷ part 42 2 ∷ part 54 2 ∷ part 66 2 ∷ part 78 2 ∷ part 90 2 ∷ part 102 2 ∷ part 114 2 ∷ part 158 24 ∷ part 182 48 ∷ part 230 32 ∷ []
+unfolding inside
+others = inside ++ part 158 24 ∷ part 182 48 ∷ part 230 32 ∷ []
 
 whole : List Part
 unfolding dir150 others
 whole = dir150 ++ part 18 2 ∷ others
 
 pub readings : List Reading
-unfolding reading head8 count2 dir150 others whole fileA changed enc
+unfolding reading head8 count2 dir150 inside others whole fileA changed enc
 readings =
     reading fileA 0 whole
     -- empty, and 7 bytes: all n
@@ -253,8 +256,8 @@ readings =
     -- the first entry with tag 258, and with count 0
     ∷ reading (changed 10 (enc 2 258)) 6 dir150
     ∷ reading (changed 14 (enc 4 0)) 7 dir150
-    -- next offset 8
-    ∷ reading (changed 154 (enc 4 8)) 8 whole
+    -- next offset 8: the directory again as that of a mask, with the values of the tags of a mask's table
+    ∷ reading (changed 154 (enc 4 8)) 28 (whole ++ part 8 2 ∷ part 8 150 ∷ part 18 2 ∷ inside)
     -- the first entry with tag 255, which is not in the table, and with type 13: it has no value on the list
     ∷ reading (changed 10 (enc 2 255)) 9 (dir150 ++ others)
     ∷ reading (changed 12 (enc 2 13)) 10 (dir150 ++ others)

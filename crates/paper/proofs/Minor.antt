@@ -2,7 +2,7 @@
 -- verdict and place from both, and only one that was refused by 15 can have another. And the minor revision decides nothing else: runs that
 -- differ in it alone, each with 0 or 1, get the same verdict. Assumes nothing.
 use Prim.Native.Nat.{ℕ, zero, suc, _+_, _*_, _/_, _≤_}
-use mathlib.Core.Path.{_≡_, refl}
+use mathlib.Core.Path.{_≡_, refl, ap, _∙_}
 use mathlib.Core.Bool.{Bool, true, false, not, _||_}
 use mathlib.Core.List.{List, [], _∷_, _++_}
 use native.Mathlib.Omega.{arith}
@@ -13,9 +13,10 @@ use Rattle.paper.specs.Bytes.{build}
 use Rattle.paper.specs.Outcome.{breaks, firstBad, Rule, _▸_, verdict, first, _▷_}
 use Rattle.paper.specs.Keys.{Runs, short, minorRevision, newestMinor, keyCount, mostKeys, rule15, keyAt, keys, rule16, rule17, rule18, rule19, keyRules}
 use Rattle.paper.specs.Keys.{room, rightPlace, misplaced}
-use Rattle.paper.specs.Judge.{groundRules, surveyRules, surveyStage, imageStage, view, runsOf, surveyOf, verdictOf}
+use Rattle.paper.specs.Judge.{groundRules, surveyRules, surveyStage, imageStage, maskStage, view, runsOf, surveyOf, verdictOf}
 use Rattle.paper.specs.Calls.{readRuns}
 use Rattle.paper.proofs.Laws.{or-false}
+use Rattle.paper.proofs.First.{verdict-turned}
 use Rattle.paper.specs.declared.Verdict.{Verdict}
 use Rattle.paper.specs.declared.KeyEntry.{KeyEntry}
 
@@ -39,7 +40,7 @@ keyRulesZero r =
     ∷ []
 
 unfoldable pub verdictZero : List ℕ → Verdict
-verdictZero f = imageStage f ▷ first (keyRulesZero (runsOf (view f)) ++ groundRules (surveyOf (view f)))
+verdictZero f = imageStage f ▷ (first (keyRulesZero (runsOf (view f)) ++ groundRules (surveyOf (view f))) ▷ maskStage f)
 
 -- ---- where the minor revision is not 1
 
@@ -57,13 +58,15 @@ unfolding readRuns
 read-zero r n = rw (rules-zero r n)
 
 pub verdict-zero : (f : List ℕ) → (minorRevision (runsOf (view f)) ≡ 1 → ⊥) → verdictOf f ≡ verdictZero f
-unfolding verdictOf surveyStage surveyRules verdictZero
-verdict-zero f n = rw (rules-zero (runsOf (view f)) n)
+unfolding surveyStage surveyRules verdictZero
+verdict-zero f n =
+    verdict-turned f
+    ∙ ap (λ (rs : List Rule). imageStage f ▷ (first (rs ++ groundRules (surveyOf (view f))) ▷ maskStage f)) (rules-zero (runsOf (view f)) n)
 
 -- ---- where rule 15 without C-13 does not refuse the file
 
 pub verdict-fifteen : (f : List ℕ) → (verdictZero f ≡ verdict 15 0 → ⊥) → verdictOf f ≡ verdictZero f
-unfolding verdictOf verdictZero keyRulesZero wrongZero first
+unfolding verdictZero keyRulesZero wrongZero first
 verdict-fifteen f n = go (wrongZero r) refl
   where
     r : Runs
@@ -72,7 +75,7 @@ verdict-fifteen f n = go (wrongZero r) refl
     -- an earlier rule refuses it
     earlier : (b : Bool) → eqb (imageStage f .number) 0 ≡ b → wrongZero r ≡ true → verdictOf f ≡ verdictZero f
     earlier true e w = absurd (n (rw (e, w)))
-    earlier false e w = rw e
+    earlier false e w = verdict-turned f ∙ rw e
 
     go : (b : Bool) → wrongZero r ≡ b → verdictOf f ≡ verdictZero f
     go true w = earlier (eqb (imageStage f .number) 0) refl w

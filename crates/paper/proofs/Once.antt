@@ -15,12 +15,13 @@ use Rattle.paper.specs.Layout.{behind, rule6, rule7}
 use Rattle.paper.specs.Tag
 use Rattle.paper.specs.Tags.{Line, table, Held, hold, absent, find, has, rule27, rule9, fitsLine, misfits, rule10, rule11, rule12, named}
 use Rattle.paper.specs.Judge.{Head, View, fullOf, entryRules, tableRules, pieceRules, pictureRules, headIn, entriesIn, viewAt, view}
-use Rattle.paper.specs.Judge.{headStage, offsetStage, countStage, entryStage, directoryStage, nextStage, pictureStage, surveyStage, imageStage, verdictOf}
+use Rattle.paper.specs.Judge.{headStage, offsetStage, countStage, entryStage, directoryStage, pictureStage, surveyStage, imageStage, maskStage, verdictOf}
 use Rattle.paper.specs.Calls.{accepts, answer, textsIn, rule29, textIn, textOf}
 use Rattle.paper.specs.Places.{Pair, pairsFrom, pairs}
 use Rattle.paper.proofs.Laws.{or-false, first-same, all-at}
 use Rattle.paper.proofs.Bounds.{noLine, table-named}
 use Rattle.paper.proofs.Keeps.{rule6-kept}
+use Rattle.paper.proofs.First.{verdict-turned}
 use Rattle.paper.proofs.Several.{tagsOf, first-of, present, rises-strict, rises-behind, no-other, once, tags-held, rising}
 use Rattle.paper.specs.declared.Verdict.{Verdict}
 use Rattle.paper.specs.declared.Entry.{Entry}
@@ -58,7 +59,7 @@ unfoldable pub pictureOnce : View → Verdict
 pictureOnce v = first (tableRulesOnce v ++ pieceRules (fullOf v) v)
 
 unfoldable pub verdictOnce : List ℕ → Verdict
-verdictOnce f = (headStage f ▷ (directoryOnce f (headIn f) ▷ (nextStage f ▷ pictureOnce (view f)))) ▷ surveyStage (view f)
+verdictOnce f = (headStage f ▷ (directoryOnce f (headIn f) ▷ pictureOnce (view f))) ▷ (surveyStage (view f) ▷ maskStage f)
 
 -- a 50909 directly behind a 50909
 unfoldable pub repeated : Pair → Bool
@@ -122,20 +123,21 @@ module _ (f : List ℕ) (six : rule6 (entriesIn f (headIn f)) ≡ rule6Once (ent
   rules-once k = rw (rule10-once (map (hold table f) (entriesIn f (headIn f))) (ap ascending (tags-held table f (entriesIn f (headIn f))) ∙ k))
 
   -- what the rules behind rule 6 give, where they are tried
-  picture-once : directoryOnce f (headIn f) ▷ (nextStage f ▷ pictureStage (view f)) ≡ directoryOnce f (headIn f) ▷ (nextStage f ▷ pictureOnce (view f))
+  picture-once : directoryOnce f (headIn f) ▷ pictureStage (view f) ≡ directoryOnce f (headIn f) ▷ pictureOnce (view f)
   unfolding directoryOnce entryRulesOnce first
   picture-once = go (rule6Once (entriesIn f (headIn f))) refl
     where
       go : (o : Outcome) → rule6Once (entriesIn f (headIn f)) ≡ o
-          → directoryOnce f (headIn f) ▷ (nextStage f ▷ pictureStage (view f)) ≡ directoryOnce f (headIn f) ▷ (nextStage f ▷ pictureOnce (view f))
+          → directoryOnce f (headIn f) ▷ pictureStage (view f) ≡ directoryOnce f (headIn f) ▷ pictureOnce (view f)
       go kept k = rw (rules-once k)
       go (broken p) k = rw k (shut (offsetStage (headIn f)) (countStage f (headIn f)) 6 p _ _ refl)
 
   same-once : verdictOf f ≡ verdictOnce f
-  unfolding verdictOf imageStage verdictOnce
+  unfolding imageStage verdictOnce
   same-once =
-      ap (λ (v : Verdict). (headStage f ▷ (v ▷ (nextStage f ▷ pictureStage (view f)))) ▷ surveyStage (view f)) directory-once
-      ∙ ap (λ (v : Verdict). (headStage f ▷ v) ▷ surveyStage (view f)) picture-once
+      verdict-turned f
+      ∙ ap (λ (v : Verdict). (headStage f ▷ (v ▷ pictureStage (view f))) ▷ (surveyStage (view f) ▷ maskStage f)) directory-once
+      ∙ ap (λ (v : Verdict). (headStage f ▷ v) ▷ (surveyStage (view f) ▷ maskStage f)) picture-once
 
 -- no 50909 stands directly behind another
 pub verdict-once : (f : List ℕ) → repeats (entriesIn f (headIn f)) ≡ false → verdictOf f ≡ verdictOnce f
@@ -156,7 +158,7 @@ earlier h o c d x y s n = go (eqb (h .number) 0) refl (eqb (o .number) 0) refl (
 
 -- rule 6 without C-12 does not refuse the file at a 50909
 pub verdict-else : (f : List ℕ) → (verdictOnce f ≡ verdict 6 50909 → ⊥) → verdictOf f ≡ verdictOnce f
-unfolding verdictOf imageStage directoryStage verdictOnce directoryOnce entryRulesOnce first rule6 rule6Once
+unfolding imageStage directoryStage verdictOnce directoryOnce entryRulesOnce first rule6 rule6Once
 verdict-else f n = go (ascending (map (λ e. e .tag) (entriesIn f (headIn f)))) refl
   where
     at : (p : ℕ) (b : Bool) → eqb p 50909 ≡ b → ascending (map (λ e. e .tag) (entriesIn f (headIn f))) ≡ broken p → verdictOf f ≡ verdictOnce f
@@ -166,7 +168,7 @@ verdict-else f n = go (ascending (map (λ e. e .tag) (entriesIn f (headIn f)))) 
         place w = cc
     at p true d k =
         let e : ascending (map (λ e. e .tag) (entriesIn f (headIn f))) ≡ broken 50909 = k ∙ ap broken (eqb-true p 50909 d) in
-        rw e (earlier (headStage f) (offsetStage (headIn f)) (countStage f (headIn f)) _ _ _ _ (rw e at n))
+        verdict-turned f ∙ rw e (earlier (headStage f) (offsetStage (headIn f)) (countStage f (headIn f)) _ _ _ _ (rw e at n))
 
     go : (o : Outcome) → ascending (map (λ e. e .tag) (entriesIn f (headIn f))) ≡ o → verdictOf f ≡ verdictOnce f
     go kept k = same-once f (rising _ (λ w. unbroken (sym k ∙ w)))

@@ -2,7 +2,7 @@
 -- of candidates, and over any list of rules that have numbers of their own. Assumes nothing.
 use Prim.Native.Nat.{ℕ, zero, suc, _+_, _≤_, _<_}
 use mathlib.Core.Path.{_≡_, refl, sym, ap, _∙_, subst}
-use mathlib.Core.Bool.{Bool, true, false, cond, not, false≢true}
+use mathlib.Core.Bool.{Bool, true, false, cond, not, _&&_, false≢true}
 use mathlib.Core.List.{List, [], _∷_, _++_, map}
 use native.Mathlib.Omega.{arith}
 use lib.Dec.{eqb, ltb}
@@ -11,16 +11,17 @@ use borrow.Author.Tests.{eqb-true, eqb-false, ltb-true, not-true}
 use Rattle.paper.specs.Bytes.{build}
 use Rattle.paper.specs.Outcome.{Outcome, kept, broken, breaks, firstOf, Fault, firstThere, firstBad, ascendingFrom, ascending, Rule, first, verdict, ordered, orderedFrom}
 use Rattle.paper.specs.Tests.{notIn, distinct}
-use Rattle.paper.specs.Layout.{behind, rule1, rule2, rule3, rule4, rule5, rule6, rule7, rule8}
+use Rattle.paper.specs.Layout.{behind, rule1, rule2, rule3, rule4, rule5, rule6, rule7}
 use Rattle.paper.specs.Tags.{Held, table, tiled, disagreements, rule27, rule9, rule10, rule11, rule12}
 use Rattle.paper.specs.Pieces.{Piece, placeAt, placesOf, pieces, rule13, rule14}
 use Rattle.paper.specs.Keys.{fixedKeys, rule15, rule16, rule17, rule18, rule19}
 use Rattle.paper.specs.Ground.{rule20, rule21, rule22}
-use Rattle.paper.specs.Judge.{View, headOf, headIn, viewAt, view, piecesOf, verdictOf, rules}
+use Rattle.paper.specs.Judge.{View, headOf, headIn, viewAt, view, piecesOf, verdictOf, rules, hasMask, maskRules, maskVerdict, rule28}
+use Rattle.paper.specs.Asked.{MaskBroken}
 use Rattle.paper.specs.Places.{In, FirstFault, Lowest, FirstPiece, LowestFault, pairsFrom, pairs, outOfOrder, FirstFall, placeless, Places, Placed}
 use Rattle.paper.proofs.Several.{ordered-more}
 use Rattle.paper.proofs.Laws.{and-eq}
-use Rattle.paper.proofs.First.{verdict-rules, ruled}
+use Rattle.paper.proofs.First.{broken-first, verdict-rules, ruled, mask-rules}
 use Rattle.paper.proofs.Tables.{table-order, fixed-order}
 use Rattle.paper.specs.declared.Verdict.{Verdict}
 
@@ -253,19 +254,32 @@ module _ (f : List ℕ) where
 
   -- the rules that give no place, in the order of `placeless`
   ungiven-zero : (k : ℕ) → In k placeless → Placed f k (λ p. p ≡ 0)
-  unfolding opened rule1 rule2 rule3 rule4 rule5 rule8 rule27 rule15 rule20 rule22
+  unfolding opened rule1 rule2 rule3 rule4 rule5 rule27 rule15 rule20 rule22
   ungiven-zero =
       (λ p h. search (breaks-place, outcome 1 p refl h))
       ⊹ (λ p h. search (breaks-place, outcome 2 p refl h))
       ⊹ (λ p h. search (breaks-place, outcome 3 p refl h))
       ⊹ (λ p h. search (breaks-place, outcome 4 p refl h))
       ⊹ (λ p h. search (breaks-place, outcome 5 p refl h))
-      ⊹ (λ p h. search (breaks-place, outcome 8 p refl h))
       ⊹ (λ p h. search (breaks-place, outcome 27 p refl h))
       ⊹ (λ p h. search (breaks-place, outcome 15 p refl h))
       ⊹ (λ p h. search (breaks-place, outcome 20 p refl h))
       ⊹ (λ p h. search (breaks-place, outcome 22 p refl h))
       ⊹ (λ k i. absurd (in-none k i))
+
+  -- the mask's rule
+  breaks-first : (b : Bool) (p q : ℕ) → breaks b p ≡ broken q → (b ≡ true) × (p ≡ q)
+  breaks-first true p q h = (refl, broken-same p q h)
+  breaks-first false p q h = (cc, cc)
+
+  mask-broken : (p : ℕ) → rule28 f ≡ broken p → MaskBroken f p
+  unfolding rule28
+  mask-broken p h =
+      let b = breaks-first (hasMask f && not (eqb (maskVerdict f .number) 0)) (maskVerdict f .number) p h in
+      let c = and-eq (hasMask f) _ (b .0) in
+      let n : p ≡ 0 → ⊥ = (λ z. eqb-false _ _ (not-true _ (c .1)) (b .1 ∙ z)) in
+      let e : first (maskRules f) ≡ verdict p (maskVerdict f .place) = sym (mask-rules f) ∙ (λ i. record { number = b .1 i; place = maskVerdict f .place }) in
+      record { there = c .0; at = maskVerdict f .place; first = broken-first (maskRules f) p (maskVerdict f .place) e n }
 
   pub places : Places f
   unfolding opened rule6 rule7 rule9 rule10 rule11 rule12 rule13 rule14 rule16 rule17 rule18 rule19 rule21 ordered orderedFrom
@@ -288,4 +302,5 @@ module _ (f : List ℕ) where
         at19 = λ p h. lowest _ _ fixedKeys p fixed-order (first-fault _ _ _ p (outcome 19 p refl h));
         at21 = λ p h. lowest-fault _ p refl (outcome 21 p refl h);
         tags21 = refl;
+        at28 = λ p h. mask-broken p (outcome 28 p refl h);
       }

@@ -95,9 +95,9 @@ examples =
     ∷ refused (both 13) 27 0
     ∷ refused (delivered (front 4 2 ++ entry 273 3 1 274 ∷ samples ∷ entry 278 3 1 2 ∷ entry 279 3 1 8 ∷ entry 322 3 1 16 ∷ []) (replicate 8 0)) 27 0
     ∷ refused neither 27 0
-    -- next offset 8 with tags of both, and of neither: 8 stands before 27
-    ∷ refused (sets (both 3) 178 (enc 4 8)) 8 0
-    ∷ refused (sets neither 118 (enc 4 8)) 8 0
+    -- next offset 8 with tags of both, and of neither: 27 stands before 28
+    ∷ refused (sets (both 3) 178 (enc 4 8)) 27 0
+    ∷ refused (sets neither 118 (enc 4 8)) 27 0
     -- 256 is 255, so that 256 is absent, with tags of both, and of neither: 27 stands before 9
     ∷ refused (sets (both 3) 10 (enc 2 255)) 27 0
     ∷ refused (sets neither 10 (enc 2 255)) 27 0
@@ -147,24 +147,28 @@ whole c vs =
 firsts : List Part
 firsts = part 18 2 ∷ part 30 2 ∷ part 42 2 ∷ part 54 2 ∷ part 66 2 ∷ part 78 2 ∷ []
 
+-- those of the tiles of T
+tiles : List Part
+tiles = part 90 2 ∷ part 102 2 ∷ part 114 4 ∷ part 126 2 ∷ []
+
 wholeT : List Part
-unfolding whole firsts
-wholeT = whole 13 (firsts ++ part 90 2 ∷ part 102 2 ∷ part 114 4 ∷ part 126 2 ∷ [])
+unfolding whole firsts tiles
+wholeT = whole 13 (firsts ++ tiles)
 
 wholeBoth : List Part
 unfolding whole firsts
 wholeBoth = whole 14 (firsts ++ part 90 2 ∷ part 102 2 ∷ part 114 2 ∷ part 126 4 ∷ part 138 2 ∷ [])
 
--- with verdict 27 the list is that of verdict 8
+-- with verdict 27 the list is that of verdict 9, and with next offset 8 it holds nothing of a mask; with 28 and place 8 it does
 pub readings : List Reading
-unfolding reading whole firsts wholeT wholeBoth fileT changed both neither enc
+unfolding reading whole firsts tiles wholeT wholeBoth fileT changed both neither enc
 readings =
     reading fileT 0 wholeT
-    ∷ reading (changed 166 (enc 4 8)) 8 wholeT
+    ∷ reading (changed 166 (enc 4 8)) 28 (wholeT ++ (part 8 2 ∷ part 8 162 ∷ firsts) ++ tiles)
     ∷ reading (both 3) 27 wholeBoth
-    ∷ reading (sets (both 3) 178 (enc 4 8)) 8 wholeBoth
+    ∷ reading (sets (both 3) 178 (enc 4 8)) 27 wholeBoth
     ∷ reading neither 27 (whole 9 firsts)
-    ∷ reading (sets neither 118 (enc 4 8)) 8 (whole 9 firsts)
+    ∷ reading (sets neither 118 (enc 4 8)) 27 (whole 9 firsts)
     ∷ []
 
 pub allowed : map (λ x. allowedOf (x .file)) readings ≡ map (λ x. x .gives) readings

@@ -1,23 +1,25 @@
 -- The picture never shows: two files of one length that agree on the reading list of the first have the same verdict and place, and where
 -- it is 0 the same view, of which every other answer is a function. Assumes nothing.
 use Prim.Native.Nat.{ℕ, _+_, _≤_, _<_, min}
-use mathlib.Core.Path.{_≡_, refl, ap, ap₂, _∙_}
-use mathlib.Core.Bool.{Bool, true, false, cond, _||_, _&&_}
-use mathlib.Core.List.{List, [], _∷_, map}
+use mathlib.Core.Path.{_≡_, refl, sym, ap, ap₂, _∙_, subst}
+use mathlib.Core.Bool.{Bool, true, false, cond, not, _||_, _&&_}
+use mathlib.Core.List.{List, [], _∷_, _++_, map}
 use native.Mathlib.Omega.{arith}
-use lib.Dec.{T, leb, ltb, le→leb, lt→ltb}
+use lib.Dec.{T, eqb, leb, ltb, le→leb, lt→ltb}
 use lib.ListN.{length}
 use Rattle.paper.specs.Bytes.{run, num}
-use Rattle.paper.specs.Outcome.{first, _▷_}
+use Rattle.paper.specs.Outcome.{breaks, _▸_, first, _▷_}
 use Rattle.paper.specs.Layout.{dirLen, entries, nextOffset}
 use Rattle.paper.specs.Tests.{some, keep}
-use Rattle.paper.specs.Tags.{Line, table, Held, hold, listed}
-use Rattle.paper.specs.Pieces.{Part, part, valueParts}
+use Rattle.paper.specs.Tag
+use Rattle.paper.specs.Tags.{Line, table, maskTable, Held, hold, listed, valueOf}
+use Rattle.paper.specs.Pieces.{Part, part, valueParts, rule13, rule14}
 use Rattle.paper.specs.Judge.{Head, View, headOf, headRun, headIn, countRun, countIn, dirRun, entriesIn, nextIn, viewAt, view, verdictOf}
-use Rattle.paper.specs.Judge.{headRules, countRules, entryRules, nextRules, whereKept, directoryParts, readingList}
-use Rattle.paper.specs.Judge.{headStage, offsetStage, countStage, entryStage, directoryStage, nextStage, pictureStage, surveyStage, imageStage}
+use Rattle.paper.specs.Judge.{headRules, countRules, entryRules, nextRules, tableRules, whereKept, directoryParts, readingList, piecesOf, directoryOf, fullOf}
+use Rattle.paper.specs.Judge.{headStage, offsetStage, countStage, entryStage, directoryStage, nextStage, pictureStage, surveyStage, imageStage, fileStage, maskStage}
+use Rattle.paper.specs.Judge.{hasMask, maskHead, maskLines, maskView, bothParts, bothPieces, maskPictureRules, maskVerdict, rule28}
 use Rattle.paper.specs.Asked.{inPart, onList, Agree}
-use Rattle.paper.proofs.Laws.{run-same}
+use Rattle.paper.proofs.Laws.{run-same, some-append}
 use Rattle.paper.proofs.First.{chain, chain-both}
 use Rattle.paper.specs.Calls.{accepts, answer, judgedOf, rowsOf, rowsLeft, citedOf, textOf}
 use Rattle.paper.specs.Block.{blockOf, blockLeft}
@@ -51,6 +53,15 @@ agree-head f g p ps n h = run-same f g (p .start) (p .len) n (λ i a b c. h i (o
 pub agree-tail : (f g : List ℕ) (p : Part) (ps : List Part) → Agree f g (p ∷ ps) → Agree f g ps
 unfolding onList some
 agree-tail f g p ps h i t = h i (or-right (inPart i p) _ t)
+
+-- agreement on one of two lists
+agree-left : (f g : List ℕ) (ps qs : List Part) → Agree f g (ps ++ qs) → Agree f g ps
+unfolding onList
+agree-left f g ps qs h i t = h i (subst T (sym (some-append (inPart i) ps qs)) (or-left (some (inPart i) ps) _ t))
+
+agree-right : (f g : List ℕ) (ps qs : List Part) → Agree f g (ps ++ qs) → Agree f g qs
+unfolding onList
+agree-right f g ps qs h i t = h i (subst T (sym (some-append (inPart i) ps qs)) (or-right (some (inPart i) ps) _ t))
 
 -- ---- the value bytes
 
@@ -161,18 +172,24 @@ module _ (f g : List ℕ) (n : length f ≡ length g) (h : Agree f g (readingLis
   unfolding headStage
   headStage-same = ap₂ (λ (k : ℕ) (r : List ℕ). first (headRules k r)) n head-same
 
+  -- what may be read of the mask
+  abbrev Masked : List Part
+  Masked = cond (hasMask f) (directoryParts (maskLines f) f (maskHead f)) []
+
+  behind-head : Agree f g (whereKept (headStage f) (directoryParts table f (headIn f)) ++ whereKept (fileStage f) Masked)
+  unfolding readingList
+  behind-head = agree-tail f g (part 0 (min 8 (length f))) _ h
+
   module _ (three : headStage f .number ≡ 0) where
     directory-read : Agree f g (directoryParts table f (headIn f))
-    unfolding readingList
-    directory-read = agree-kept f g (headStage f) _ three (agree-tail f g (part 0 (min 8 (length f))) _ h)
+    directory-read = agree-kept f g (headStage f) _ three (agree-left f g (whereKept (headStage f) (directoryParts table f (headIn f))) (whereKept (fileStage f) Masked) behind-head)
 
     directory-same : directoryStage f (headIn f) ≡ directoryStage g (headIn g)
     directory-same = directory-here f g n table (headIn f) directory-read ∙ ap (directoryStage g) headIn-same
 
     module _ (seven : directoryStage f (headIn f) .number ≡ 0) where
-      next-same : nextStage f ≡ nextStage g
-      unfolding nextStage
-      next-same = ap (λ (k : ℕ). first (nextRules k)) (next-here f g n table (headIn f) directory-read seven ∙ ap (nextIn g) headIn-same)
+      next-same : nextIn f (headIn f) ≡ nextIn g (headIn g)
+      next-same = next-here f g n table (headIn f) directory-read seven ∙ ap (nextIn g) headIn-same
 
       view-same : view f ≡ view g
       unfolding view
@@ -182,24 +199,98 @@ module _ (f g : List ℕ) (n : length f ≡ length g) (h : Agree f g (readingLis
   unfolding imageStage
   image-same =
       chain (headStage f) (headStage g) _ _ headStage-same
-      (λ x. chain (directoryStage f (headIn f)) (directoryStage g (headIn g)) _ _ (directory-same x)
-      (λ y. chain (nextStage f) (nextStage g) _ _ (next-same x y) (λ z. ap pictureStage (view-same x y))))
+      (λ x. chain (directoryStage f (headIn f)) (directoryStage g (headIn g)) _ _ (directory-same x) (λ y. ap pictureStage (view-same x y)))
 
   -- where rules 1 to 14 and 27 are kept, and so where all are
-  image-view : imageStage f .number ≡ 0 → view f ≡ view g
+  image-kept : imageStage f .number ≡ 0 → (headStage f .number ≡ 0) × (directoryStage f (headIn f) .number ≡ 0)
   unfolding imageStage
-  image-view z =
-      let a = chain-both (headStage f) (directoryStage f (headIn f) ▷ (nextStage f ▷ pictureStage (view f))) z in
-      view-same (a .0) (chain-both (directoryStage f (headIn f)) (nextStage f ▷ pictureStage (view f)) (a .1) .0)
+  image-kept z =
+      let a = chain-both (headStage f) (directoryStage f (headIn f) ▷ pictureStage (view f)) z in
+      (a .0, chain-both (directoryStage f (headIn f)) (pictureStage (view f)) (a .1) .0)
+
+  image-view : imageStage f .number ≡ 0 → view f ≡ view g
+  image-view z = let a = image-kept z in view-same (a .0) (a .1)
+
+  file-same : fileStage f ≡ fileStage g
+  unfolding fileStage
+  file-same = chain (imageStage f) (imageStage g) _ _ image-same (λ z. ap surveyStage (image-view z))
+
+  -- ---- its mask, where rules 1 to 22 and 27 are kept
+
+  module _ (own : fileStage f .number ≡ 0) where
+    image-zero : imageStage f .number ≡ 0
+    unfolding fileStage
+    image-zero = chain-both (imageStage f) (surveyStage (view f)) own .0
+
+    file-view : view f ≡ view g
+    file-view = image-view image-zero
+
+    offset-same : nextIn f (headIn f) ≡ nextIn g (headIn g)
+    offset-same = let a = image-kept image-zero in next-same (a .0) (a .1)
+
+    there-same : hasMask f ≡ hasMask g
+    unfolding hasMask
+    there-same = ap (λ (k : ℕ). not (eqb k 0)) offset-same
+
+    maskHead-same : maskHead f ≡ maskHead g
+    unfolding maskHead
+    maskHead-same = λ i. record { size = n i; big = headIn-same i .big; at = offset-same i }
+
+    maskLines-same : maskLines f ≡ maskLines g
+    unfolding maskLines
+    maskLines-same = λ i. maskTable (valueOf (headIn-same i .big) Tag.width (file-view i .held)) (valueOf (headIn-same i .big) Tag.length (file-view i .held))
+
+    module _ (there : hasMask f ≡ true) where
+      mask-read : Agree f g (directoryParts (maskLines f) f (maskHead f))
+      mask-read =
+          let m = agree-kept f g (fileStage f) Masked own (agree-right f g (whereKept (headStage f) (directoryParts table f (headIn f))) (whereKept (fileStage f) Masked) behind-head) in
+          rw there at m
+
+      mask-directory : directoryStage f (maskHead f) ≡ directoryStage g (maskHead g)
+      mask-directory = directory-here f g n (maskLines f) (maskHead f) mask-read ∙ ap (directoryStage g) maskHead-same
+
+      module _ (seven : directoryStage f (maskHead f) .number ≡ 0) where
+        mask-next : nextStage f (maskHead f) ≡ nextStage g (maskHead g)
+        unfolding nextStage
+        mask-next = ap (λ (k : ℕ). first (nextRules k)) (next-here f g n (maskLines f) (maskHead f) mask-read seven ∙ ap (nextIn g) maskHead-same)
+
+        maskView-same : maskView f ≡ maskView g
+        unfolding maskView
+        maskView-same = view-here f g n (maskLines f) (maskHead f) mask-read seven ∙ (λ i. viewAt (maskLines-same i) g (maskHead-same i))
+
+        mask-picture : first (maskPictureRules f) ≡ first (maskPictureRules g)
+        unfolding maskPictureRules bothParts bothPieces
+        mask-picture =
+            λ i. first
+            (tableRules (maskView-same i)
+            ++ (13 ▸ rule13 (n i) (piecesOf (maskView-same i))
+            ∷ 14 ▸ rule14 (fullOf (file-view i) ++ directoryOf (maskView-same i)) (piecesOf (file-view i) ++ piecesOf (maskView-same i))
+            ∷ []))
+
+      maskVerdict-same : maskVerdict f ≡ maskVerdict g
+      unfolding maskVerdict
+      maskVerdict-same =
+          chain (directoryStage f (maskHead f)) (directoryStage g (maskHead g)) _ _ mask-directory
+          (λ y. chain (nextStage f (maskHead f)) (nextStage g (maskHead g)) _ _ (mask-next y) (λ z. mask-picture y))
+
+    maskStage-same : maskStage f ≡ maskStage g
+    unfolding maskStage rule28
+    maskStage-same = go (hasMask f) refl
+      where
+        go : (b : Bool) → hasMask f ≡ b → maskStage f ≡ maskStage g
+        go true e =
+            λ i. first
+            (28 ▸ breaks (there-same i && not (eqb (maskVerdict-same e i .number) 0)) (maskVerdict-same e i .number) ∷ [])
+        go false e = let d : hasMask g ≡ false = sym there-same ∙ e in rw (e, d)
 
   pub accepted-view : verdictOf f .number ≡ 0 → view f ≡ view g
   unfolding verdictOf
-  accepted-view z = image-view (chain-both (imageStage f) (surveyStage (view f)) z .0)
+  accepted-view z = file-view (chain-both (fileStage f) (maskStage f) z .0)
 
   -- Demand 3: verdict and place
   pub verdict-same : verdictOf f ≡ verdictOf g
   unfolding verdictOf
-  verdict-same = chain (imageStage f) (imageStage g) _ _ image-same (λ z. ap surveyStage (image-view z))
+  verdict-same = chain (fileStage f) (fileStage g) _ _ file-same maskStage-same
 
   -- Demand 3: every answer of every call, whatever it makes of the view
   pub answer-same : {A : Type 0} (good : View → A) (bad : Verdict → A) → answer f good bad ≡ answer g good bad

@@ -2,7 +2,7 @@
 -- repainted file, equal answers of every call, equal keys. `proofs/Demands` states the demands in them. Assumes nothing.
 use Prim.Native.Nat.{ℕ, _+_, _≤_, _<_}
 use mathlib.Core.Path.{_≡_}
-use mathlib.Core.Bool.{Bool, cond, _&&_}
+use mathlib.Core.Bool.{Bool, true, cond, _&&_}
 use mathlib.Core.List.{List, [], _∷_}
 use lib.Dec.{T, eqb, leb, ltb}
 use lib.ListN.{length, getD}
@@ -12,7 +12,7 @@ use Rattle.paper.specs.Tests.{some}
 use Rattle.paper.specs.Tag
 use Rattle.paper.specs.Pieces.{Part, part, Piece}
 use Rattle.paper.specs.Keys.{Runs, keyCount, keyAt}
-use Rattle.paper.specs.Judge.{view, piecesOf, verdictOf}
+use Rattle.paper.specs.Judge.{allPieces, hasMask, maskRules, verdictOf}
 use Rattle.paper.specs.Calls.{judgedOf, rowsOf, rowsLeft, citedOf, citation, textOf, metadataText, backOf}
 use Rattle.paper.specs.Block.{elements, blockOf, blockLeft}
 use Rattle.paper.specs.declared.Block.{Block}
@@ -33,6 +33,12 @@ pub record FirstBroken (rs : List Rule) (k p : ℕ) : Type 0 where
   pub at : ℕ
   pub there : getD rs at noRule ≡ k ▸ broken p
   pub before : (i : ℕ) → i < at → getD rs i noRule .outcome ≡ kept
+
+-- there is a mask, and rule p is the first that it breaks, of those it keeps for itself
+pub record MaskBroken (f : List ℕ) (p : ℕ) : Type 0 where
+  pub there : hasMask f ≡ true
+  pub at : ℕ
+  pub first : FirstBroken (maskRules f) p at
 
 -- every element is a byte
 abbrev pub Bytes : List ℕ → Type 0
@@ -97,11 +103,11 @@ pub record Within (n : ℕ) (p : Part) : Type 0 where
   pub low : 8 ≤ p .start
   pub high : p .start + p .len ≤ n
 
--- byte i of the file is in piece k
+-- byte i of the file is in piece k, of those of the image and then of the mask
 abbrev pub InPiece : List ℕ → ℕ → ℕ → Type 0
-InPiece f k i = T (inPart i (getD (piecesOf (view f)) k noPiece .place))
+InPiece f k i = T (inPart i (getD (allPieces f) k noPiece .place))
 
--- g is f with other bytes in its strips or tiles, and nowhere else
+-- g is f with other bytes in its strips or tiles, of the image and of the mask, and nowhere else
 pub record Repainted (f g : List ℕ) : Type 0 where
   pub long : length f ≡ length g
-  pub elsewhere : (i : ℕ) → ((k : ℕ) → k < length (piecesOf (view f)) → InPiece f k i → ⊥) → getD f i 0 ≡ getD g i 0
+  pub elsewhere : (i : ℕ) → ((k : ℕ) → k < length (allPieces f) → InPiece f k i → ⊥) → getD f i 0 ≡ getD g i 0

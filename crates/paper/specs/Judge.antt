@@ -1,16 +1,17 @@
--- The judgement: rules 1 to 22 and 27 over a file, which is looked at only through runs, stage by stage, and the reading list.
+-- The judgement: rules 1 to 22 and 27 over a file, then 28, the rules of its mask, as request C-14 has them. The file is looked at only through runs,
+-- stage by stage; and the reading list.
 -- Assumes nothing.
 use Prim.Native.Nat.{ℕ, min}
-use mathlib.Core.Bool.{Bool, cond}
+use mathlib.Core.Bool.{Bool, cond, not, _&&_}
 use mathlib.Core.List.{List, [], _∷_, _++_, map}
 use lib.Dec.{eqb}
 use lib.ListN.{length}
 use Rattle.paper.specs.Bytes.{run, num}
-use Rattle.paper.specs.Outcome.{Rule, _▸_, first, _▷_}
+use Rattle.paper.specs.Outcome.{Outcome, breaks, Rule, _▸_, first, _▷_}
 use Rattle.paper.specs.Layout.{isBig, dirAt, dirLen, entries, nextOffset, rule1, rule2, rule3, rule4, rule5, rule6, rule7, rule8}
 use Rattle.paper.specs.Tag
-use Rattle.paper.specs.Tags.{Line, table, Held, hold, bytesOf, valueOf, rule27, rule9, rule10, rule11, rule12}
-use Rattle.paper.specs.Pieces.{pieces, Piece, Part, part, fullList, valueParts, rule13, rule14}
+use Rattle.paper.specs.Tags.{Line, table, maskTable, Held, hold, bytesOf, valueOf, rule27, rule9, rule10, rule11, rule12}
+use Rattle.paper.specs.Pieces.{pieces, Piece, Part, part, directoryList, fullList, valueParts, rule13, rule14}
 use Rattle.paper.specs.Key
 use Rattle.paper.specs.Keys.{Runs, keys, keyValue, keyRules}
 use Rattle.paper.specs.Ground.{Survey, corners, rule20, rule21, rule22}
@@ -54,6 +55,9 @@ surveyOf v =
 
 unfoldable pub piecesOf : View → List Piece
 piecesOf v = pieces (v .head .big) (v .held)
+
+unfoldable pub directoryOf : View → List Part
+directoryOf v = directoryList (v .table) (v .head .at) (v .count) (v .held)
 
 unfoldable pub fullOf : View → List Part
 fullOf v = fullList (v .table) (v .head .at) (v .count) (v .held)
@@ -164,31 +168,85 @@ view f = viewAt table f (headIn f)
 unfoldable pub headStage : List ℕ → Verdict
 headStage f = first (headRules (length f) (headRun f))
 
-unfoldable pub nextStage : List ℕ → Verdict
-nextStage f = first (nextRules (nextIn f (headIn f)))
-
 unfoldable pub pictureStage : View → Verdict
 pictureStage v = first (pictureRules v)
 
 unfoldable pub surveyStage : View → Verdict
 surveyStage v = first (surveyRules v)
 
--- the verdict of rules 1 to 14 and 27, and of all rules
+-- the verdict of rules 1 to 14 and 27, and with the survey of 1 to 22 and 27
 unfoldable pub imageStage : List ℕ → Verdict
-imageStage f = headStage f ▷ (directoryStage f (headIn f) ▷ (nextStage f ▷ pictureStage (view f)))
+imageStage f = headStage f ▷ (directoryStage f (headIn f) ▷ pictureStage (view f))
+
+unfoldable pub fileStage : List ℕ → Verdict
+fileStage f = imageStage f ▷ surveyStage (view f)
+
+-- ---- the mask of a file: a second directory, which a next offset other than 0 leads to
+
+unfoldable pub hasMask : List ℕ → Bool
+hasMask f = not (eqb (nextIn f (headIn f)) 0)
+
+unfoldable pub maskHead : List ℕ → Head
+maskHead f = record { size = length f; big = headIn f .big; at = nextIn f (headIn f) }
+
+-- its table has the image's width and length
+unfoldable pub maskLines : List ℕ → List Line
+maskLines f = maskTable (valueOf (headIn f .big) Tag.width (view f .held)) (valueOf (headIn f .big) Tag.length (view f .held))
+
+unfoldable pub maskView : List ℕ → View
+maskView f = viewAt (maskLines f) f (maskHead f)
+
+-- the full list is that of both directories, and the picture is the image's and the mask's
+unfoldable pub bothParts : List ℕ → List Part
+bothParts f = fullOf (view f) ++ directoryOf (maskView f)
+
+unfoldable pub bothPieces : List ℕ → List Piece
+bothPieces f = piecesOf (view f) ++ piecesOf (maskView f)
+
+-- rules 27 and 9 to 14 of the mask: neither picture may touch the list
+unfoldable pub maskPictureRules : List ℕ → List Rule
+maskPictureRules f =
+    tableRules (maskView f) ++ (13 ▸ rule13 (length f) (piecesOf (maskView f)) ∷ 14 ▸ rule14 (bothParts f) (bothPieces f) ∷ [])
+
+-- the rules that the mask keeps for itself, 4 to 14 and 27
+unfoldable pub maskRules : List ℕ → List Rule
+maskRules f = directoryRules f (maskHead f) ++ (nextRules (nextIn f (maskHead f)) ++ maskPictureRules f)
+
+unfoldable pub nextStage : List ℕ → Head → Verdict
+nextStage f h = first (nextRules (nextIn f h))
+
+unfoldable pub maskVerdict : List ℕ → Verdict
+maskVerdict f = directoryStage f (maskHead f) ▷ (nextStage f (maskHead f) ▷ first (maskPictureRules f))
+
+-- the mask breaks a rule. Place: the number of that rule
+unfoldable pub rule28 : List ℕ → Outcome
+rule28 f = breaks (hasMask f && not (eqb (maskVerdict f .number) 0)) (maskVerdict f .number)
+
+unfoldable pub maskStage : List ℕ → Verdict
+maskStage f = first (28 ▸ rule28 f ∷ [])
+
+-- ---- the verdict and the reading list
 
 unfoldable pub verdictOf : List ℕ → Verdict
-verdictOf f = imageStage f ▷ surveyStage (view f)
+verdictOf f = fileStage f ▷ maskStage f
 
--- the rules, in order: 27 stands after 8
+-- the rules, in order: 27 stands after 7, and 28 after 22
 unfoldable pub rules : List ℕ → List Rule
 rules f =
     headRules (length f) (headRun f)
     ++ (directoryRules f (headIn f)
-    ++ (nextRules (nextIn f (headIn f))
     ++ (pictureRules (view f)
-    ++ surveyRules (view f))))
+    ++ (surveyRules (view f)
+    ++ (28 ▸ rule28 f ∷ []))))
 
--- the reading list: the head, and of the directory what its stages give; `Listed` has it in the document's words, by the verdict's number
+-- every piece of a file, of the image and of the mask that it may have
+unfoldable pub allPieces : List ℕ → List Piece
+allPieces f = piecesOf (view f) ++ cond (hasMask f) (piecesOf (maskView f)) []
+
+-- the reading list: the head, and of the directory what its stages give; where the file's own rules are kept, and it has a mask, also what the stages
+-- of the mask's directory give. `Listed` has it in the documents' words, by the verdict
 unfoldable pub readingList : List ℕ → List Part
-readingList f = part 0 (min 8 (length f)) ∷ whereKept (headStage f) (directoryParts table f (headIn f))
+readingList f =
+    part 0 (min 8 (length f))
+    ∷ (whereKept (headStage f) (directoryParts table f (headIn f))
+    ++ whereKept (fileStage f) (cond (hasMask f) (directoryParts (maskLines f) f (maskHead f)) []))

@@ -31,10 +31,10 @@ Refused v = v .number ≡ 0 → ⊥
 abbrev pub among : ℕ → List ℕ → Bool
 among k ks = some (eqb k) ks
 
--- the rules of a file: 1 to 22 of document 01, 27 of request C-11
+-- the rules of a file: 1 to 22 of document 01, of which 8 is a mask's alone, 27 of request C-11, 28 of C-14
 abbrev pub fileNumbers : List ℕ
 fileNumbers =
-    1 ∷ 2 ∷ 3 ∷ 4 ∷ 5 ∷ 6 ∷ 7 ∷ 8 ∷ 9 ∷ 10 ∷ 11 ∷ 12 ∷ 13 ∷ 14 ∷ 15 ∷ 16 ∷ 17 ∷ 18 ∷ 19 ∷ 20 ∷ 21 ∷ 22 ∷ 27 ∷ []
+    1 ∷ 2 ∷ 3 ∷ 4 ∷ 5 ∷ 6 ∷ 7 ∷ 9 ∷ 10 ∷ 11 ∷ 12 ∷ 13 ∷ 14 ∷ 15 ∷ 16 ∷ 17 ∷ 18 ∷ 19 ∷ 20 ∷ 21 ∷ 22 ∷ 27 ∷ 28 ∷ []
 
 -- the number is 0, with place 0, or one of ks
 pub record Gives (ks : List ℕ) (v : Verdict) : Type 0 where

@@ -23,9 +23,13 @@ shares a b = ltb (max (a .start) (b .start)) (min (a .start + a .len) (b .start 
 unfoldable pub valueParts : List Line → List Held → List Part
 valueParts tb hs = map (λ h. part (h .entry .start) (h .entry .len)) (keep (λ h. listed tb (h .entry)) hs)
 
--- the full reading list of a file whose directory, of c entries, stands at `at`
+-- what may be read of a directory of c entries that stands at `at`: its count, the whole of it, the values
+abbrev pub directoryList : List Line → ℕ → ℕ → List Held → List Part
+directoryList tb at c hs = part at 2 ∷ part at (dirLen c) ∷ valueParts tb hs
+
+-- the full reading list of a file with that directory
 unfoldable pub fullList : List Line → ℕ → ℕ → List Held → List Part
-fullList tb at c hs = part 0 8 ∷ part at 2 ∷ part at (dirLen c) ∷ valueParts tb hs
+fullList tb at c hs = part 0 8 ∷ directoryList tb at c hs
 
 -- ---- the pieces: a list of places, each with its index from 0
 

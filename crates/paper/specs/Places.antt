@@ -12,6 +12,7 @@ use Rattle.paper.specs.Tags.{table, tiled, lacks, misfits, disallowed, d
 use Rattle.paper.specs.Pieces.{Piece, badPiece, touches}
 use Rattle.paper.specs.Keys.{keys, misplaced, absences, fixedKeys, forbidden}
 use Rattle.paper.specs.Ground.{groundFaults}
+use Rattle.paper.specs.Asked.{MaskBroken}
 use Rattle.paper.specs.Judge.{headIn, entriesIn, view, piecesOf, fullOf, runsOf, surveyOf, verdictOf}
 
 -- ---- the first, and the lowest
@@ -82,7 +83,7 @@ Placed f k Q = (p : ℕ) → verdictOf f ≡ verdict k p → Q p
 
 -- the rules for which document 01 gives no place, and C-11 for 27
 abbrev pub placeless : List ℕ
-placeless = 1 ∷ 2 ∷ 3 ∷ 4 ∷ 5 ∷ 8 ∷ 27 ∷ 15 ∷ 20 ∷ 22 ∷ []
+placeless = 1 ∷ 2 ∷ 3 ∷ 4 ∷ 5 ∷ 27 ∷ 15 ∷ 20 ∷ 22 ∷ []
 
 pub record Places (f : List ℕ) : Type 0 where
   -- the place is 0 unless given
@@ -114,3 +115,5 @@ pub record Places (f : List ℕ) : Type 0 where
   -- the lowest tag at fault of 33550, 33922 and 34264
   pub at21 : Placed f 21 (LowestFault (groundFaults (surveyOf (view f))))
   pub tags21 : map (λ x. x .place) (groundFaults (surveyOf (view f))) ≡ 33550 ∷ 33922 ∷ 34264 ∷ []
+  -- the mask breaks a rule: the number of the first that it breaks, one of 4 to 14 and 27
+  pub at28 : Placed f 28 (MaskBroken f)
