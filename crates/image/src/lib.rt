@@ -123,7 +123,7 @@ fn judge_pieces(
     let outerstarts = outer(starts, a, b, 0, at);
     let outerlens = outer(lens, a, b, 8, 2 + 12 * c + 4);
     let later = layout::value(file, further.start, 12 * further.many);
-    pieces::judge_places(
+    let placed = pieces::judge_places(
         offsets,
         typs[a] == lines::LONG,
         bytecounts,
@@ -136,7 +136,9 @@ fn judge_pieces(
         OUTER,
         later,
         further.many,
-    )
+        false,
+    );
+    placed.verdict
 }
 
 // Rules 27 and 9 to 14, from the columns of the directory.

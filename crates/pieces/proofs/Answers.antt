@@ -1,21 +1,21 @@
--- The gap around a byte as `gap_of` and `narrow` compute it, and the ends of a place as `is_out` counts them: one law for each answer, with the
--- facts of its path as premises. Assumes nothing.
+-- The gap around a byte as `gap_of` and `narrow` compute it, whether parts have a byte in a span as `meets` tells, and the ends of a place as `is_out`
+-- counts them: one law for each answer, with the facts of its path as premises. Assumes nothing.
 use Prim.Native.Nat.{ℕ, _+_, _-_, _*_, _%_, _≤_, _<_, min, max, zero-le}
 use mathlib.Core.Path.{_≡_, refl, sym, ap, _∙_, subst}
-use mathlib.Core.Bool.{Bool, true, false, cond, _&&_, _||_, or-true}
+use mathlib.Core.Bool.{Bool, true, false, cond, not, _&&_, _||_, or-true}
 use mathlib.Core.List.{List, [], _∷_, _++_, append-nil}
 use native.Mathlib.Omega.{arith}
 use native.Mathlib.Nat.{sub-zero, zero-add}
 use lib.Dec.{ltb, leb, eqb}
 use lib.ListN.{getD}
-use borrow.Author.Tests.{eqb-true, eqb-false, leb-true, le-leb, lt-leb, ltb-true, ltb-false, le-ltb, lt-ltb}
+use borrow.Author.Tests.{eqb-true, eqb-false, leb-true, le-leb, lt-leb, ltb-true, ltb-false, le-ltb, lt-ltb, ne-eqb}
 use Rattle.paper.specs.Bytes.{num, build}
-use Rattle.paper.specs.Tests.{keep}
+use Rattle.paper.specs.Tests.{all, keep}
 use Rattle.paper.specs.Pieces.{part}
 use Rattle.paper.specs.declared.Part.{Part}
 use Rattle.paper.proofs.Laws.{build-step, and-eq}
 use Rattle.paper.proofs.Loops.{build-end}
-use Rattle.pieces.specs.Gaps.{partAt, wide, partsOf, namedAt, namedParts, Found}
+use Rattle.pieces.specs.Gaps.{partAt, wide, partsOf, namedAt, namedParts, clear, Found}
 use Rattle.pieces.specs.declared.Gap.{Gap}
 use Rattle.pieces.proofs.Gaps.{Around, around-none, around-behind, around-before, found-gap, gap-found}
 
@@ -174,6 +174,68 @@ module _ (big : Bool) (s : List ℕ) (many byte : ℕ) (g : Gap) where
     narrow-end z n ps f =
         found-gap byte n (namedParts big s many ++ ps) lo hi
         (subst (λ (xs : List Part). Around byte n xs lo hi) (parts-all (namedAt big s) many ps j z) (seen .around n ps f))
+
+-- ---- meets: whether a part that counts has a byte from low up to high
+
+flipped : (a b : ℕ) → ltb b a ≡ not (leb a b)
+flipped a b = go (ltb b a) refl
+  where
+    go : (t : Bool) → ltb b a ≡ t → t ≡ not (leb a b)
+    go true e = rw (lt-leb a b (ltb-true b a e))
+    go false e = rw (le-leb a b (ltb-false b a e))
+
+both-not : (x y : Bool) → not x && not y ≡ not (x || y)
+both-not true y = refl
+both-not false y = refl
+
+either-not : (x y : Bool) → not x || not y ≡ not (x && y)
+either-not true y = refl
+either-not false y = refl
+
+pub met-is : (start len low high : ℕ)
+    → ltb 4 len && (ltb low (start + len) && ltb start high) ≡ wide (part start len) && not (clear low high (part start len))
+unfolding wide clear
+met-is start len low high = go (ltb 4 len) refl
+  where
+    go : (t : Bool) → ltb 4 len ≡ t
+        → t && (ltb low (start + len) && ltb start high) ≡ t && not (eqb len 0 || (leb (start + len) low || leb high start))
+    go false e = refl
+    go true e =
+        let l : 4 < len = ltb-true _ _ e in
+        let z : len ≡ 0 → ⊥ = λ q. absurd (omega arith) in
+        rw (ne-eqb len 0 z, flipped (start + len) low, flipped high start) (both-not (leb (start + len) low) (leb high start))
+
+module _ (starts lens : List ℕ) (m low high : ℕ) where
+  abbrev Meets : List Part → Bool
+  Meets ps = not (all (clear low high) ps)
+
+  abbrev From : ℕ → List Part
+  From j = partsFrom (partAt starts lens) m [] j
+
+  pub meet-start : false ≡ Meets (From m)
+  unfolding all
+  meet-start = sym (ap Meets (parts-none (partAt starts lens) m []))
+
+  module _ (j : ℕ) (met : Bool) (is-met : met ≡ Meets (From j)) where
+    abbrev Last : Part
+    Last = part (getD starts (j - 1) 0) (getD lens (j - 1) 0)
+
+    pub meet-turn : 0 < j → j ≤ m → (here : Bool)
+        → here ≡ wide Last && not (clear low high Last) → here || met ≡ Meets (From (j - 1))
+    unfolding all partAt
+    meet-turn left few here is-here = go (wide Last) refl
+      where
+        go : (t : Bool) → wide Last ≡ t → here || met ≡ Meets (From (j - 1))
+        go true e =
+            let h : here ≡ not (clear low high Last) = is-here ∙ rw e in
+            rw (h, is-met, parts-more (partAt starts lens) m [] j left few Last refl e) (either-not (clear low high Last) (all (clear low high) (From j)))
+        go false e =
+            let h : here ≡ false = is-here ∙ rw e in
+            rw (h, parts-same (partAt starts lens) m [] j left few Last refl e) is-met
+
+    pub meet-end : j ≤ 0 → met ≡ Meets (partsOf starts lens m)
+    unfolding partsOf
+    meet-end z = is-met ∙ ap Meets (parts-all (partAt starts lens) m [] j z ∙ append-nil _)
 
 -- ---- is_out: the ends of a place as counted from lo, in 64 bits
 

@@ -2,3 +2,4 @@
 pub mod Gaps
 pub mod Answers
 pub mod Passing
+pub mod Spans

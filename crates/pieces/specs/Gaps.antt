@@ -2,7 +2,7 @@
 -- parts. Assumes nothing.
 use Prim.Native.Nat.{ℕ, _+_, _-_, _*_, _≤_, _<_}
 use mathlib.Core.Path.{_≡_}
-use mathlib.Core.Bool.{Bool, true, false, _||_}
+use mathlib.Core.Bool.{Bool, true, false, cond, _&&_, _||_}
 use mathlib.Core.List.{List, [], _∷_}
 use lib.Dec.{ltb, leb, eqb}
 use lib.ListN.{getD}
@@ -13,7 +13,11 @@ use Rattle.paper.specs.Pieces.{part, shares, Piece, placeAt, rule13, rule14}
 use Rattle.paper.specs.declared.Part.{Part}
 use Rattle.paper.specs.declared.Verdict.{Verdict}
 use Rattle.pieces.specs.declared.Gap.{Gap}
+use Rattle.pieces.specs.declared.Placed.{Placed}
+use Rattle.pieces.specs.declared.Reach.{Reach}
+use Rattle.pieces.specs.declared.Span.{Span}
 use Rattle.pieces.specs.declared.Stop.{Stop}
+use Rattle.pieces.specs.Spans.{noSpan, spanFrom, spanOf, placed}
 
 -- a start and a length of such columns add up within 64 bits
 abbrev pub Addable : List ℕ → Type 0
@@ -68,6 +72,18 @@ pub record Skipped (big : Bool) (a : ℕ) (offsets : List ℕ) (b : ℕ) (byteco
   pub fourteen : (ps : List Part) → (lo < hi → all (clear lo hi) ps ≡ true)
       → rule14 ps (fromPlace big a offsets b bytecounts from k) ≡ rule14 ps (fromPlace big a offsets b bytecounts (s .at) k)
 
+-- The same with a span: where one is asked for, what the search passed by has widened the given one.
+pub record Reached (big : Bool) (a : ℕ) (offsets : List ℕ) (b : ℕ) (bytecounts : List ℕ) (k lo hi from : ℕ) (spanned : Bool) (given : Span) (r : Reach)
+    : Type 0 where
+  pub skipped : Skipped big a offsets b bytecounts k lo hi from (r .stop)
+  pub wider : spanned ≡ true
+      → spanFrom given (fromPlace big a offsets b bytecounts from k) ≡ spanFrom (r .span) (fromPlace big a offsets b bytecounts (r .stop .at) k)
+
 -- rules 13 and 14, of places in a file of n bytes, with that reading list
 unfoldable pub placesJudged : ℕ → List Part → List Piece → Verdict
 placesJudged n parts ss = first (13 ▸ rule13 n ss ∷ 14 ▸ rule14 parts ss ∷ [])
+
+-- and the span of the places, where one is asked for and both rules are kept
+unfoldable pub placedOf : Bool → ℕ → List Part → List Piece → Placed
+placedOf spanned n parts ss =
+    placed (placesJudged n parts ss) (cond (spanned && eqb (placesJudged n parts ss .number) 0) (spanOf ss) noSpan)

@@ -1,16 +1,18 @@
 // Where the places of a picture may lie: rules 13 and 14 in one pass, each offset and byte count fetched once. The places are any two runs of
 // numbers, the reading list any two columns and a run of further entries, so that every kind of picture is judged by this one pass.
 ghost use mathlib.Core.Path.{_≡_};
-ghost use mathlib.Core.Bool.{cond, _||_};
+ghost use mathlib.Core.Bool.{true, cond, not, _&&_, _||_};
 ghost use mathlib.Core.List.{List, _++_};
 ghost use Prim.Native.Nat.{ℕ, _+_, _*_, _≤_, _<_, max, min};
 ghost use lib.Dec.{ltb, eqb};
 ghost use lib.ListN.{length};
 ghost use Rattle.order.specs.Width.{width};
 ghost use Rattle.paper.specs.Outcome.{orElse, verdict};
-ghost use Rattle.paper.specs.Pieces.{placesOf, rule13};
+ghost use Rattle.paper.specs.Pieces.{part, placesOf, rule13};
+ghost use Rattle.paper.specs.Tests.{all};
 ghost use Rattle.paper.specs.declared.Part.{Part};
-ghost use Rattle.pieces.specs.Gaps.{Addable, fromPlace, partsOf, namedParts, Found, Skipped, placesJudged};
+ghost use Rattle.pieces.specs.Gaps.{Addable, fromPlace, partsOf, namedParts, wide, clear, Found, Skipped, Reached, placedOf};
+ghost use Rattle.pieces.specs.Spans.{noSpan, widened, placed};
 use paper::Verdict;
 
 // A gap of the reading list around a byte: no byte from lo up to hi is on it. Where the byte itself is on the list, it lies below lo.
@@ -19,11 +21,29 @@ pub struct Gap {
     pub hi: usize,
 }
 
+// The span of some places: from the lowest start up to the highest end.
+pub struct Span {
+    pub low: usize,
+    pub high: usize,
+}
+
 // A place at which a search stopped, with its offset and byte count.
 pub struct Stop {
     pub at: usize,
     pub start: usize,
     pub len: usize,
+}
+
+// The same with the span of the places before it.
+pub struct Reach {
+    pub stop: Stop,
+    pub span: Span,
+}
+
+// What rules 13 and 14 say of all places, and their span where one is asked for and both are kept.
+pub struct Placed {
+    pub verdict: Verdict,
+    pub span: Span,
 }
 
 // Rule 13 at one place.
@@ -109,6 +129,38 @@ fn is_out(start: usize, len: usize, lo: usize, hi: usize) -> bool
     (to <= from) | (hi - lo < to)
 }
 
+fn lowest(a: usize, b: usize) -> usize
+    ensures { λ r. ⌜ r ≡ min a b ⌝ }
+{
+    if b < a {
+        return b;
+    }
+    a
+}
+
+fn highest(a: usize, b: usize) -> usize
+    ensures { λ r. ⌜ r ≡ max a b ⌝ }
+{
+    if a < b {
+        return b;
+    }
+    a
+}
+
+// A span with one place more, where one is asked for.
+fn widen(span: Span, spanned: bool, start: usize, len: usize) -> Span
+    requires { ⌜ (start < 4294967296) × (len < 4294967296) ⌝ }
+    ensures { λ r. ⌜ r ≡ cond spanned (widened span (part start len)) span ⌝ }
+{
+    if spanned {
+        return Span {
+            low: lowest(span.low, start),
+            high: highest(span.high, start + len),
+        };
+    }
+    span
+}
+
 // The first place from `from` on that does not lie in the gap from lo up to hi, with its offset and byte count; k where all do.
 fn skip_run(
     offsets: &[u8],
@@ -173,6 +225,140 @@ fn skip(
     )
 }
 
+// The same, with the given span widened by the places that lie in the gap.
+fn span_run(
+    offsets: &[u8],
+    wideoffsets: bool,
+    bytecounts: &[u8],
+    widebytecounts: bool,
+    big: bool,
+    from: usize,
+    k: usize,
+    lo: usize,
+    hi: usize,
+    span: Span,
+) -> Reach
+    requires { ⌜ (from ≤ k) × (k < 4294967296) × (width wideoffsets * k ≤ length (now offsets)) × (width widebytecounts * k ≤ length (now bytecounts)) × (lo ≤ hi) × (hi ≤ 4294967295) ⌝ }
+    ensures { λ r. ⌜ Reached big (width wideoffsets) (now (offsets .entry)) (width widebytecounts) (now (bytecounts .entry)) k lo hi from true span r ⌝ }
+{
+    let mut i = from;
+    let mut wider = span;
+    while i < k {
+        let start = order::element(offsets, big, wideoffsets, i);
+        let len = order::element(bytecounts, big, widebytecounts, i);
+        if is_out(start, len, lo, hi) {
+            return Reach {
+                stop: Stop { at: i, start, len },
+                span: wider,
+            };
+        }
+        wider = widen(wider, true, start, len);
+        i += 1;
+    }
+    Reach {
+        stop: Stop {
+            at: k,
+            start: 0,
+            len: 0,
+        },
+        span: wider,
+    }
+}
+
+// The same, with a loop of its own for two runs of LONGs in each byte order.
+fn skip_spanned(
+    offsets: &[u8],
+    wideoffsets: bool,
+    bytecounts: &[u8],
+    widebytecounts: bool,
+    big: bool,
+    from: usize,
+    k: usize,
+    lo: usize,
+    hi: usize,
+    span: Span,
+) -> Reach
+    requires { ⌜ (from ≤ k) × (k < 4294967296) × (width wideoffsets * k ≤ length (now offsets)) × (width widebytecounts * k ≤ length (now bytecounts)) × (lo ≤ hi) × (hi ≤ 4294967295) ⌝ }
+    ensures { λ r. ⌜ Reached big (width wideoffsets) (now (offsets .entry)) (width widebytecounts) (now (bytecounts .entry)) k lo hi from true span r ⌝ }
+{
+    if wideoffsets {
+        if widebytecounts {
+            if big {
+                return span_run(offsets, true, bytecounts, true, true, from, k, lo, hi, span);
+            }
+            return span_run(
+                offsets,
+                true,
+                bytecounts,
+                true,
+                false,
+                from,
+                k,
+                lo,
+                hi,
+                span,
+            );
+        }
+    }
+    span_run(
+        offsets,
+        wideoffsets,
+        bytecounts,
+        widebytecounts,
+        big,
+        from,
+        k,
+        lo,
+        hi,
+        span,
+    )
+}
+
+// The search with the span where one is asked for, and else without: so each has loops of its own.
+fn skip_on(
+    offsets: &[u8],
+    wideoffsets: bool,
+    bytecounts: &[u8],
+    widebytecounts: bool,
+    big: bool,
+    from: usize,
+    k: usize,
+    lo: usize,
+    hi: usize,
+    spanned: bool,
+    span: Span,
+) -> Reach
+    requires { ⌜ (from ≤ k) × (k < 4294967296) × (width wideoffsets * k ≤ length (now offsets)) × (width widebytecounts * k ≤ length (now bytecounts)) × (lo ≤ hi) × (hi ≤ 4294967295) ⌝ }
+    ensures { λ r. ⌜ Reached big (width wideoffsets) (now (offsets .entry)) (width widebytecounts) (now (bytecounts .entry)) k lo hi from spanned span r ⌝ }
+{
+    if spanned {
+        return skip_spanned(
+            offsets,
+            wideoffsets,
+            bytecounts,
+            widebytecounts,
+            big,
+            from,
+            k,
+            lo,
+            hi,
+            span,
+        );
+    }
+    let stop = skip(
+        offsets,
+        wideoffsets,
+        bytecounts,
+        widebytecounts,
+        big,
+        from,
+        k,
+        lo,
+        hi,
+    );
+    Reach { stop, span }
+}
+
 // Rule 13 from a place on, where an earlier place breaks rule 14 at `clash`: the search passes by all that lie in the file, behind its head.
 fn after_clash(
     offsets: &[u8],
@@ -211,8 +397,32 @@ fn after_clash(
     }
 }
 
+// A verdict with no span.
+fn no_span(v: Verdict) -> Placed
+    ensures { λ r. ⌜ r ≡ placed v noSpan ⌝ }
+{
+    Placed {
+        verdict: v,
+        span: Span { low: 0, high: 0 },
+    }
+}
+
+// Both rules are kept: with the span, where one is asked for.
+fn kept_all(spanned: bool, span: Span) -> Placed
+    ensures { λ r. ⌜ r ≡ placed (verdict 0 0) (cond spanned span noSpan) ⌝ }
+{
+    let verdict = Verdict {
+        number: 0,
+        place: 0,
+    };
+    if spanned {
+        return Placed { verdict, span };
+    }
+    no_span(verdict)
+}
+
 // Rules 13 and 14 over k places: their offsets and byte counts are LONGs (wide) or SHORTs in two runs, and the reading list is m parts and those
-// that `many` further entries of type BYTE name.
+// that `many` further entries of type BYTE name. Where both rules are kept and a span is asked for, the span of the places comes with the verdict.
 pub fn judge_places(
     offsets: &[u8],
     wideoffsets: bool,
@@ -226,30 +436,35 @@ pub fn judge_places(
     m: usize,
     further: &[u8],
     many: usize,
-) -> Verdict
+    spanned: bool,
+) -> Placed
     requires { ⌜ (k < 4294967296) × (width wideoffsets * k ≤ length (now offsets)) × (width widebytecounts * k ≤ length (now bytecounts)) × (m ≤ length (now starts)) × (m ≤ length (now lens)) × Addable (now starts) × Addable (now lens) × (8 ≤ n) × (n ≤ 4294967295) × (12 * many ≤ length (now further)) ⌝ }
-    ensures { λ r. ⌜ r ≡ placesJudged n (namedParts big (now (further .entry)) many ++ partsOf (now (starts .entry)) (now (lens .entry)) m) (placesOf big (width wideoffsets) (now (offsets .entry)) (width widebytecounts) (now (bytecounts .entry)) k) ⌝ }
+    ensures { λ r. ⌜ r ≡ placedOf spanned n (namedParts big (now (further .entry)) many ++ partsOf (now (starts .entry)) (now (lens .entry)) m) (placesOf big (width wideoffsets) (now (offsets .entry)) (width widebytecounts) (now (bytecounts .entry)) k) ⌝ }
 {
     if k == 0 {
-        return Verdict {
+        return no_span(Verdict {
             number: 0,
             place: 0,
-        };
+        });
     }
     let mut at = 0;
     let mut start = order::element(offsets, big, wideoffsets, 0);
     let mut len = order::element(bytecounts, big, widebytecounts, 0);
+    let mut span = Span {
+        low: start,
+        high: start + len,
+    };
     while at < k {
         if is_bad(start, len, n) {
-            return Verdict {
+            return no_span(Verdict {
                 number: 13,
                 place: at as u32,
-            };
+            });
         }
         let known = gap_of(starts, lens, m, n, start);
         let g = narrow(known, start, further, big, many);
         if (start < g.lo) | (g.hi < start + len) {
-            return after_clash(
+            return no_span(after_clash(
                 offsets,
                 wideoffsets,
                 bytecounts,
@@ -259,15 +474,13 @@ pub fn judge_places(
                 k,
                 n,
                 at as u32,
-            );
+            ));
         }
+        let wider = widen(span, spanned, start, len);
         if k <= at + 1 {
-            return Verdict {
-                number: 0,
-                place: 0,
-            };
+            return kept_all(spanned, wider);
         }
-        let s = skip(
+        let next = skip_on(
             offsets,
             wideoffsets,
             bytecounts,
@@ -277,13 +490,36 @@ pub fn judge_places(
             k,
             g.lo,
             g.hi,
+            spanned,
+            wider,
         );
+        let s = next.stop;
         at = s.at;
         start = s.start;
         len = s.len;
+        span = next.span;
     }
-    Verdict {
-        number: 0,
-        place: 0,
+    kept_all(spanned, span)
+}
+
+// Whether a part counts and has a byte from low up to high.
+fn is_met(from: usize, len: usize, low: usize, high: usize) -> bool
+    requires { ⌜ (from < 68719476736) × (len < 68719476736) ⌝ }
+    ensures { λ r. ⌜ r ≡ wide (part from len) && not (clear low high (part from len)) ⌝ }
+{
+    (4 < len) & ((low < from + len) & (from < high))
+}
+
+// Whether one of m parts that each have a start and a length has a byte from low up to high.
+pub fn meets(starts: &[usize], lens: &[usize], m: usize, low: usize, high: usize) -> bool
+    requires { ⌜ (m ≤ length (now starts)) × (m ≤ length (now lens)) × Addable (now starts) × Addable (now lens) ⌝ }
+    ensures { λ r. ⌜ r ≡ not (all (clear low high) (partsOf (now (starts .entry)) (now (lens .entry)) m)) ⌝ }
+{
+    let mut met = false;
+    let mut j = m;
+    while 0 < j {
+        j -= 1;
+        met = is_met(starts[j], lens[j], low, high) | met;
     }
+    met
 }
