@@ -2,7 +2,7 @@
 -- Assumes nothing.
 use Prim.Native.Nat.{ℕ}
 use mathlib.Core.Path.{_≡_, refl, sym, ap, _∙_}
-use mathlib.Core.Bool.{Bool}
+use mathlib.Core.Bool.{Bool, true, false, cond, not, _&&_}
 use mathlib.Core.List.{List}
 use native.Mathlib.Omega.{arith}
 use lib.Dec.{eqb}
@@ -11,11 +11,10 @@ use borrow.Author.Tests.{eq-eqb, ne-eqb}
 use Rattle.paper.specs.Bytes.{run}
 use Rattle.paper.specs.Outcome.{first, verdict, _▷_}
 use Rattle.paper.specs.Tests.{all}
-use Rattle.paper.specs.Layout.{dirLen, entries, nextOffset, rule8}
+use Rattle.paper.specs.Layout.{dirLen, entries, nextOffset}
 use Rattle.paper.specs.Tags.{table}
-use Rattle.paper.specs.Judge.{View, view, viewAt, headIn, dirRun, nextIn, fullOf}
-use Rattle.paper.specs.Judge.{tableRules, pieceRules, pictureRules, nextRules}
-use Rattle.paper.specs.Judge.{nextStage, pictureStage, imageStage}
+use Rattle.paper.specs.Judge.{View, view, viewAt, headIn, dirRun, nextIn, piecesOf, fullOf}
+use Rattle.paper.specs.Judge.{tableRules, pieceRules, pictureRules, pictureStage, imageStage}
 use Rattle.paper.proofs.First.{first-append, chain-zero, chain-stop}
 use Rattle.paper.proofs.Several.{entries-held}
 use Rattle.paper.specs.declared.Verdict.{Verdict}
@@ -37,7 +36,9 @@ use Rattle.tags.specs.Tagging.{viewOf, taggedBy, taggedOf}
 use Rattle.tags.specs.declared.Tagged.{Tagged}
 use Rattle.tags.proofs.Accepted.{view-is, Accepted, accepted}
 use Rattle.image.specs.Imaging.{tagPart, imageIn, noImage, imageBy, imageOf}
-use Rattle.image.specs.Stages.{Passed, Fits, piecesJudged}
+use Rattle.image.specs.Stages.{Passed, Fits, piecesJudged, placedIn}
+use Rattle.pieces.specs.Spans.{noSpan, spanOf}
+use Rattle.pieces.specs.declared.Placed.{Placed}
 
 -- ---- a view: rules 27 and 9 to 12, then 13 and 14
 
@@ -54,18 +55,35 @@ module _ (v : View) (next : ℕ) where
     pub table-refuses : (t .verdict .number ≡ 0 → ⊥) → noImage (t .verdict) ≡ imageBy (pictureStage v) v next
     table-refuses n = refused-by (t .verdict) (stage-is ∙ ap (λ (x : Tagged). x .verdict ▷ piecesJudged v) (sym is) ∙ chain-stop (t .verdict) _ n) n
 
-    module _ (z : t .verdict .number ≡ 0) {s : Verdict} (so : s ≡ piecesJudged v) where
-      to-pieces : pictureStage v ≡ s
-      to-pieces = stage-is ∙ ap (λ (x : Tagged). x .verdict ▷ piecesJudged v) (sym is) ∙ chain-zero (t .verdict) _ z ∙ sym so
+    module _ (z : t .verdict .number ≡ 0) (spanned : Bool) {s : Placed} (so : s ≡ placedIn spanned v) where
+      to-pieces : pictureStage v ≡ s .verdict
+      unfolding placedIn
+      to-pieces =
+          stage-is
+          ∙ ap (λ (x : Tagged). x .verdict ▷ piecesJudged v) (sym is)
+          ∙ chain-zero (t .verdict) _ z
+          ∙ sym (ap (λ (x : Placed). x .verdict) so)
 
-      pub pieces-refuse : (s .number ≡ 0 → ⊥) → noImage s ≡ imageBy (pictureStage v) v next
-      pieces-refuse n = refused-by s to-pieces n
+      pub pieces-refuse : (s .verdict .number ≡ 0 → ⊥) → noImage (s .verdict) ≡ imageBy (pictureStage v) v next
+      pieces-refuse n = refused-by (s .verdict) to-pieces n
 
-      none-refuses : s .number ≡ 0 → imageIn v next ≡ imageBy (pictureStage v) v next
+      none-refuses : s .verdict .number ≡ 0 → imageIn v next ≡ imageBy (pictureStage v) v next
       unfolding imageBy
       none-refuses y = rw (eq-eqb (pictureStage v .number) 0 (ap (λ (x : Verdict). x .number) to-pieces ∙ y))
 
--- ---- the columns of a directory whose rules 1 to 8 are kept
+      -- the span, which is asked for where the next offset is not 0
+      span-told : spanned ≡ not (eqb next 0) → s .verdict .number ≡ 0 → s .span ≡ cond (eqb next 0) noSpan (spanOf (piecesOf v))
+      unfolding placedIn
+      span-told asked y =
+          ap (λ (x : Placed). x .span) so
+          ∙ rw (eq-eqb (piecesJudged v .number) 0 (sym (ap (λ (x : Placed). x .verdict .number) so) ∙ y), asked)
+          (go (eqb next 0))
+        where
+          go : (b : Bool) → cond (not b && true) (spanOf (piecesOf v)) noSpan ≡ cond b noSpan (spanOf (piecesOf v))
+          go true = refl
+          go false = refl
+
+-- ---- the columns of a directory whose rules 1 to 7 are kept
 
 module _ {f : List ℕ} {big : Bool} {at c : ℕ} {typs counts starts lens : List ℕ} {r : Further} (p : Passed f big at c typs counts starts lens r)
     {t : Tagged} (is : t ≡ taggedOf (viewOf table f big at c)) (z : t .verdict .number ≡ 0) where
@@ -83,13 +101,16 @@ module _ {f : List ℕ} {big : Bool} {at c : ℕ} {typs counts starts lens : Lis
   unfolding tagPart
   part-is u k s = λ i. record { start = sym (s .start) i; len = sym (s .len) i }
 
-  pub image-good : {next : ℕ} {s : Verdict} → s ≡ piecesJudged (viewOf table f big at c) → s .number ≡ 0
+  pub image-good : {next : ℕ} (spanned : Bool) {s : Placed} → s ≡ placedIn spanned (viewOf table f big at c) → s .verdict .number ≡ 0
+      → spanned ≡ not (eqb next 0)
       → record {
         verdict = verdict 0 0;
         big = big;
         width = t .width;
         length = t .length;
+        at = at;
         next = next;
+        span = s .span;
         directory = record { start = getD starts Index.keyDirectory 0; len = getD lens Index.keyDirectory 0 };
         doubles = record { start = getD starts Index.doubles 0; len = getD lens Index.doubles 0 };
         characters = record { start = getD starts Index.characters 0; len = getD lens Index.characters 0 };
@@ -101,7 +122,8 @@ module _ {f : List ℕ} {big : Bool} {at c : ℕ} {typs counts starts lens : Lis
       }
       ≡ imageBy (pictureStage (viewOf table f big at c)) (viewOf table f big at c) next
   unfolding imageIn viewOf heldAt
-  image-good {next} {s} so y =
+  image-good {next} spanned {s} so y asked =
+      let sp = span-told (viewOf table f big at c) next is z spanned so asked y in
       let w = ap (λ (x : Tagged). x .width) is ∙ known .width-is in
       let l = ap (λ (x : Tagged). x .length) is ∙ known .length-is in
       let d = part-is Tag.keyDirectory Index.keyDirectory (known .directory) in
@@ -117,7 +139,9 @@ module _ {f : List ℕ} {big : Bool} {at c : ℕ} {typs counts starts lens : Lis
         big = big;
         width = w i;
         length = l i;
+        at = at;
         next = next;
+        span = sp i;
         directory = d i;
         doubles = x i;
         characters = ch i;
@@ -127,7 +151,7 @@ module _ {f : List ℕ} {big : Bool} {at c : ℕ} {typs counts starts lens : Lis
         metadata = me i;
         further = fu i;
       })
-      ∙ none-refuses (viewOf table f big at c) next is z so y
+      ∙ none-refuses (viewOf table f big at c) next is z spanned so y
 
 -- ---- a file
 
@@ -136,20 +160,16 @@ refused-whole : (f : List ℕ) (w : Verdict) → imageStage f ≡ w → (w .numb
 unfolding imageOf imageBy
 refused-whole f w e n = rw (e, ne-eqb (w .number) 0 n)
 
--- what follows rules 1 to 7
-abbrev behind7 : List ℕ → Verdict
-behind7 f = nextStage f ▷ pictureStage (view f)
-
 -- rules 1 to 3 refuse
 pub headed-bad : (f : List ℕ) {k p : ℕ} → headedOf f ≡ Bad k p → noImage (verdict k p) ≡ imageOf f
 unfolding imageStage
-headed-bad f {k} {p} e = let r = head-refuses f (behind7 f) e in refused-whole f (verdict k p) (r .is) (r .some)
+headed-bad f {k} {p} e = let r = head-refuses f (pictureStage (view f)) e in refused-whole f (verdict k p) (r .is) (r .some)
 
 -- rules 4 and 5 refuse
 pub opened-bad : (f : List ℕ) {big : Bool} {at : ℕ} → headedOf f ≡ Good big at → {k p : ℕ} → openedOf f (record { size = length f; big = big; at = at }) ≡ Refused k p
     → noImage (verdict k p) ≡ imageOf f
 unfolding imageStage
-opened-bad f good {k} {p} e = let r = open-refuses f (behind7 f) good e in refused-whole f (verdict k p) (r .is) (r .some)
+opened-bad f good {k} {p} e = let r = open-refuses f (pictureStage (view f)) good e in refused-whole f (verdict k p) (r .is) (r .some)
 
 module _ {f : List ℕ} {big : Bool} {at c : ℕ} (o : LaidAt f big at c) where
   abbrev Bytes : List ℕ
@@ -169,30 +189,18 @@ module _ {f : List ℕ} {big : Bool} {at c : ℕ} (o : LaidAt f big at c) where
     unfolding scannedOf
     next-found = ap (λ (x : Scanned). x .next) so ∙ sym next-is
 
-    to-scan : imageStage f ≡ s .verdict ▷ behind7 f
+    to-scan : imageStage f ≡ s .verdict ▷ pictureStage (view f)
     unfolding imageStage
-    to-scan = after-scan o so (behind7 f)
+    to-scan = after-scan o so (pictureStage (view f))
 
     pub scan-bad : (s .verdict .number ≡ 0 → ⊥) → noImage (s .verdict) ≡ imageOf f
     scan-bad n = refused-whole f (s .verdict) (to-scan ∙ chain-stop (s .verdict) _ n) n
 
     module _ (z : s .verdict .number ≡ 0) where
-      to-next : imageStage f ≡ nextStage f ▷ pictureStage (view f)
-      to-next = to-scan ∙ chain-zero (s .verdict) _ z
-
-      -- rule 8
-      pub next-bad : (s .next ≡ 0 → ⊥) → noImage (verdict 8 0) ≡ imageOf f
-      unfolding nextStage nextRules rule8 first
-      next-bad n =
-          let e : eqb (nextIn f (headIn f)) 0 ≡ eqb 1 0 = ap (λ (k : ℕ). eqb k 0) (sym next-found) ∙ ne-eqb (s .next) 0 n in
-          refused-whole f (verdict 8 0) (to-next ∙ rw e) (λ q. omega arith)
-
-      pub scan-good : s .next ≡ 0
-          → imageBy (pictureStage (viewOf table f big at c)) (viewOf table f big at c) (s .next) ≡ imageOf f
-      unfolding imageOf nextStage nextRules rule8 first
-      scan-good y =
-          let e : eqb (nextIn f (headIn f)) 0 ≡ eqb 0 0 = ap (λ (k : ℕ). eqb k 0) (sym next-found ∙ y) in
-          let w : imageStage f ≡ pictureStage (view f) = to-next ∙ rw e in
+      pub scan-good : imageBy (pictureStage (viewOf table f big at c)) (viewOf table f big at c) (s .next) ≡ imageOf f
+      unfolding imageOf
+      scan-good =
+          let w : imageStage f ≡ pictureStage (view f) = to-scan ∙ chain-zero (s .verdict) _ z in
           sym (rw (w, seen, next-found))
 
       pub scan-passed : {ts typs counts starts lens : List ℕ} → ts ≡ lineTags table → Columns ts (entries big at c (run f at (dirLen c))) typs counts starts lens

@@ -2,7 +2,7 @@
 -- that two slots name are the offsets and the byte counts of the pieces. Assumes nothing.
 use Prim.Native.Nat.{ℕ, zero, suc, _+_, _*_, _≤_, _<_, zero-le, suc-le-suc}
 use mathlib.Core.Path.{_≡_, refl, sym, ap, _∙_, subst}
-use mathlib.Core.Bool.{Bool, true, false, cond, not, _||_, false≢true}
+use mathlib.Core.Bool.{Bool, true, false, cond, not, _&&_, _||_, false≢true}
 use mathlib.Core.List.{List, [], _∷_, _++_, map}
 use native.Mathlib.Nat.{one-mul, mul-le-mul}
 use native.Mathlib.Omega.{arith}
@@ -32,9 +32,10 @@ use Rattle.tags.proofs.Slots.{slot-at, later-fit}
 use Rattle.tags.proofs.Answers.{later-holds, later-lent}
 use Rattle.tags.proofs.Rules.{lined}
 use Rattle.tags.proofs.Accepted.{Accepted, accepted, PieceColumn}
-use Rattle.pieces.specs.Gaps.{Addable, partAt, wide, partsOf, namedAt, namedParts, placesJudged}
-use Rattle.paper.specs.declared.Verdict.{Verdict}
-use Rattle.image.specs.Stages.{Fits, piecesJudged, outerOf}
+use Rattle.pieces.specs.Gaps.{Addable, partAt, wide, partsOf, namedAt, namedParts, placesJudged, placedOf}
+use Rattle.pieces.specs.Spans.{noSpan, spanOf, placed}
+use Rattle.pieces.specs.declared.Placed.{Placed}
+use Rattle.image.specs.Stages.{Fits, piecesJudged, placedIn, outerOf}
 use Rattle.image.proofs.Listed.{laterParts, valuePart, keep-append, columns-judged}
 
 -- a list of parts with those that are chosen alone: none of the others counts
@@ -330,14 +331,21 @@ module _ {f : List ℕ} {big : Bool} {at c : ℕ} {t : Bool} {typs counts starts
           )
 
       -- and what it answers, of the view
-      pub pieces-seen : (v : Verdict)
-          → v ≡ placesJudged (length f) (namedParts big fs (r .many) ++ partsOf ss ls 12) (placesOf big (Wide x) os (Wide y) bs many) → v ≡ piecesJudged Looked
+      verdict-seen : placesJudged (length f) (namedParts big fs (r .many) ++ partsOf ss ls 12) (placesOf big (Wide x) os (Wide y) bs many) ≡ piecesJudged Looked
       unfolding piecesJudged pieceRules fullOf viewOf entriesAt heldAt lineTags table inTable some
-      pieces-seen v e =
+      verdict-seen =
           let k = p .passed .ready in
           let named : namedParts big fs (r .many) ≡ keep wide (laterParts (entriesAt f big at c)) = ap (λ (s : List ℕ). namedParts big s (r .many)) is-f ∙ later-are in
-          e
-          ∙ (λ i. placesJudged (length f) (named i ++ partsOf (is-s i) (is-l i) 12) (placesOf big (Wide x) (is-o i) (Wide y) (is-b i) (is-many .0 i)))
+          (λ i. placesJudged (length f) (named i ++ partsOf (is-s i) (is-l i) 12) (placesOf big (Wide x) (is-o i) (Wide y) (is-b i) (is-many .0 i)))
           ∙ (λ i. placesJudged (length f) (Front ++ outer-parts i) (places-are i))
           ∙ (λ i. placesJudged (length f) (Front ++ (partsOf (k .columns .starts-are i) (k .columns .lens-are i) Index.many ++ keep wide Ends)) (piecesOf Looked))
           ∙ columns-judged table refl f big at c (run f at (dirLen c)) (p .passed .behind .six) (length f) (piecesOf Looked)
+
+      places-seen : placesOf big (Wide x) os (Wide y) bs many ≡ piecesOf Looked
+      places-seen = (λ i. placesOf big (Wide x) (is-o i) (Wide y) (is-b i) (is-many .0 i)) ∙ places-are
+
+      pub pieces-seen : (spanned : Bool) {w : Placed}
+          → w ≡ placedOf spanned (length f) (namedParts big fs (r .many) ++ partsOf ss ls 12) (placesOf big (Wide x) os (Wide y) bs many) → w ≡ placedIn spanned Looked
+      unfolding placedOf placedIn
+      pieces-seen spanned e =
+          e ∙ (λ i. placed (verdict-seen i) (cond (spanned && eqb (verdict-seen i .number) 0) (spanOf (places-seen i)) noSpan))

@@ -1,16 +1,18 @@
--- What rules 1 to 14 and 27 find of a file: the picture's size, the next offset, and where the values stand that rules 15 to 22 and the calls ask for.
--- Assumes nothing.
+-- What rules 1 to 7, 9 to 14 and 27 find of a file: the picture's size, where the directory stands, the next offset, the span of the pieces where that is
+-- not 0, and where the values stand that rules 15 to 22 and the calls ask for. Assumes nothing.
 use Prim.Native.Nat.{ℕ}
 use mathlib.Core.Bool.{false, cond}
 use mathlib.Core.List.{List, map}
+use lib.Dec.{eqb}
 use Rattle.paper.specs.Outcome.{verdict}
 use Rattle.paper.specs.Tag
 use Rattle.paper.specs.Tags.{Held, find, valueOf}
 use Rattle.paper.specs.Pieces.{part}
 use Rattle.paper.specs.declared.Part.{Part}
-use Rattle.paper.specs.Judge.{View, view, headIn, nextIn, imageStage}
+use Rattle.paper.specs.Judge.{View, view, headIn, nextIn, piecesOf, imageStage}
 use Rattle.paper.specs.Calls.{accepts}
 use Rattle.paper.specs.declared.Verdict.{Verdict}
+use Rattle.pieces.specs.Spans.{noSpan, spanOf}
 use Rattle.layout.specs.Repeats.{noFurther, furtherOf}
 use Rattle.image.specs.declared.Image.{Image}
 
@@ -28,7 +30,9 @@ imageIn v next =
       big = v .head .big;
       width = valueOf (v .head .big) Tag.width (v .held);
       length = valueOf (v .head .big) Tag.length (v .held);
+      at = v .head .at;
       next = next;
+      span = cond (eqb next 0) noSpan (spanOf (piecesOf v));
       directory = tagPart Tag.keyDirectory (v .held);
       doubles = tagPart Tag.doubles (v .held);
       characters = tagPart Tag.characters (v .held);
@@ -46,7 +50,9 @@ noImage w =
       big = false;
       width = 0;
       length = 0;
+      at = 0;
       next = 0;
+      span = noSpan;
       directory = noPart;
       doubles = noPart;
       characters = noPart;

@@ -1,5 +1,6 @@
-// The image of a file, rules 1 to 14 and 27: its head, its directory by the table, where its pieces lie. What it leaves is the picture's size, the byte
-// order, the next offset and where the values stand that others read, and where 50909 stands more than once; the survey judges some of these.
+// The image of a file, rules 1 to 7, 9 to 14 and 27: its head, its directory by the table, where its pieces lie. What it leaves is the picture's size, the
+// byte order, where the directory stands, the next offset and, where that leads to a mask, the span of the pieces; where the values stand that others read,
+// and where 50909 stands more than once. The survey judges some of these, the mask others.
 ghost use mathlib.Core.Path.{_≡_};
 ghost use Prim.Native.Nat.{_<_};
 ghost use lib.ListN.{getD};
@@ -10,21 +11,26 @@ ghost use Rattle.layout.specs.declared.Headed.the-variants.{Good};
 ghost use Rattle.tags.specs.Index.{many};
 ghost use Rattle.tags.specs.Tagging.{viewOf};
 ghost use Rattle.image.specs.Imaging.{noImage, imageBy, imageOf};
-ghost use Rattle.image.specs.Stages.{Passed, Fits, piecesJudged, outerOf};
+ghost use Rattle.image.specs.Stages.{Passed, Fits, placedIn, outerOf};
 use layout::Further;
 use paper::Part;
 use paper::Verdict;
+use pieces::Placed;
+use pieces::Span;
 use tags::table;
 use tags::table::SLOTS;
 
-// What rules 1 to 14 and 27 find of a file: their verdict, the byte order, the picture's width and length, the next offset, and where the values stand
-// that the survey and the other calls ask for. With a broken rule all but the verdict is 0, false or empty.
+// What these rules find of a file: their verdict, the byte order, the picture's width and length, where the directory stands, the next offset, the span of
+// the pieces where that is not 0, and where the values stand that the survey and the other calls ask for. With a broken rule all but the verdict is 0,
+// false or empty.
 pub struct Image {
     pub verdict: Verdict,
     pub big: bool,
     pub width: u32,
     pub length: u32,
+    pub at: usize,
     pub next: u32,
+    pub span: Span,
     pub directory: Part,
     pub doubles: Part,
     pub characters: Part,
@@ -45,7 +51,9 @@ fn no_image(verdict: Verdict) -> Image
         big: false,
         width: 0,
         length: 0,
+        at: 0,
         next: 0,
+        span: Span { low: 0, high: 0 },
         directory: none,
         doubles: none,
         characters: none,
@@ -99,8 +107,8 @@ fn outer(
     ]
 }
 
-// Rules 13 and 14, over the runs of the pieces' offsets and byte counts. The reading list is the head, the directory, and what the columns and the
-// further entries of 50909 say.
+// Rules 13 and 14, over the runs of the pieces' offsets and byte counts, and their span where it is asked for. The reading list is the head, the directory,
+// and what the columns and the further entries of 50909 say.
 fn judge_pieces(
     file: &[u8],
     big: bool,
@@ -112,9 +120,10 @@ fn judge_pieces(
     starts: &[usize; SLOTS],
     lens: &[usize; SLOTS],
     further: Further,
-) -> Verdict
+    spanned: bool,
+) -> Placed
     requires { ⌜ Fits (now file) big at c tiled (now typs) (now counts) (now starts) (now lens) further ⌝ }
-    ensures { λ r. ⌜ r ≡ piecesJudged (viewOf table (now (file .entry)) big at c) ⌝ }
+    ensures { λ r. ⌜ r ≡ placedIn spanned (viewOf table (now (file .entry)) big at c) ⌝ }
 {
     let a = tags::offsets_slot(tiled);
     let b = tags::byte_counts_slot(tiled);
@@ -123,7 +132,7 @@ fn judge_pieces(
     let outerstarts = outer(starts, a, b, 0, at);
     let outerlens = outer(lens, a, b, 8, 2 + 12 * c + 4);
     let later = layout::value(file, further.start, 12 * further.many);
-    let placed = pieces::judge_places(
+    pieces::judge_places(
         offsets,
         typs[a] == lines::LONG,
         bytecounts,
@@ -136,9 +145,8 @@ fn judge_pieces(
         OUTER,
         later,
         further.many,
-        false,
-    );
-    placed.verdict
+        spanned,
+    )
 }
 
 // Rules 27 and 9 to 14, from the columns of the directory.
@@ -172,10 +180,12 @@ fn image_columns(
         starts,
         lens,
         further,
+        next != 0,
     );
-    if s.number != 0 {
-        return no_image(s);
+    if s.verdict.number != 0 {
+        return no_image(s.verdict);
     }
+    let span = s.span;
     Image {
         verdict: Verdict {
             number: 0,
@@ -184,7 +194,9 @@ fn image_columns(
         big,
         width: t.width,
         length: t.length,
+        at,
         next,
+        span,
         directory: part_at(starts, lens, table::KEY_DIRECTORY),
         doubles: part_at(starts, lens, table::DOUBLES),
         characters: part_at(starts, lens, table::CHARACTERS),
@@ -196,7 +208,7 @@ fn image_columns(
     }
 }
 
-// Rules 6 to 14 and 27, of a file whose directory of c entries is laid at a place.
+// Rules 6, 7, 9 to 14 and 27, of a file whose directory of c entries is laid at a place.
 fn image_laid(file: &[u8], big: bool, at: usize, c: usize) -> Image
     requires { ⌜ LaidAt (now file) big at c ⌝ }
     ensures { λ r. ⌜ r ≡ imageOf (now (file .entry)) ⌝ }
@@ -225,12 +237,6 @@ fn image_laid(file: &[u8], big: bool, at: usize, c: usize) -> Image
     if s.verdict.number != 0 {
         return no_image(s.verdict);
     }
-    if s.next != 0 {
-        return no_image(Verdict {
-            number: 8,
-            place: 0,
-        });
-    }
     let further = s.further;
     image_columns(
         file,
@@ -246,7 +252,7 @@ fn image_laid(file: &[u8], big: bool, at: usize, c: usize) -> Image
     )
 }
 
-// Rules 4 to 14 and 27, of a file whose head names the place of its directory.
+// Rules 4 to 7, 9 to 14 and 27, of a file whose head names the place of its directory.
 fn image_at(file: &[u8], big: bool, at: u32) -> Image
     requires { ⌜ headedOf (now file) ≡ Good big at ⌝ }
     ensures { λ r. ⌜ r ≡ imageOf (now (file .entry)) ⌝ }
@@ -258,7 +264,7 @@ fn image_at(file: &[u8], big: bool, at: u32) -> Image
     }
 }
 
-// Rules 1 to 14 and 27.
+// Rules 1 to 7, 9 to 14 and 27.
 pub fn judge_image(file: &[u8]) -> Image
     ensures { λ r. ⌜ r ≡ imageOf (now (file .entry)) ⌝ }
 {

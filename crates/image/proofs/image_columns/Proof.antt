@@ -1,9 +1,13 @@
 -- `image_columns` asks the layer of the tags, then that of the pieces. Assumes nothing.
-use mathlib.Core.Path.{_∙_}
+use mathlib.Core.Path.{refl, _∙_}
 use borrow.Author.Needs.{needs}
 use Rattle.image.proofs.Imaging.{table-refuses, pieces-refuse, fits, image-good}
 use Rattle.image.proofs.image_columns.Statement.{statement}
 use Rattle.image.proofs.image_columns.Tie as tie
+
+-- where both tests are passed, from behind the parts
+abbrev behind-tests : tie.After-part-at7 → tie.Else2
+behind-tests c = c .before .before .before .before .before .before .before .before
 
 judge-tags-requires : tie.Need-judge-tags-requires
 judge-tags-requires c κs = search needs
@@ -23,7 +27,7 @@ no-image-requires-2 c κs = search needs
 returns-2 : tie.Need-returns-2
 returns-2 c =
     c .no-image2 .ensures
-    ∙ pieces-refuse _ _ (c .before .before .before .before .before .before .judge-tags .ensures) (c .before .before .before .before .if1 .left)
+    ∙ pieces-refuse _ _ (c .before .before .before .before .before .before .judge-tags .ensures) (c .before .before .before .before .if1 .left) _
     (c .before .before .before .judge-pieces .ensures) (c .before .if2 .taken)
 
 part-at-requires : tie.Need-part-at-requires
@@ -49,6 +53,9 @@ part-at-requires-7 c κs = search needs
 
 returns-3 : tie.Need-returns-3
 returns-3 c =
+    let h = behind-tests c in
+    let e = h .before .before .before in
+    let g = e .before .before in
     rw (
       c .before .before .before .before .before .before .part-at .ensures,
       c .before .before .before .before .before .part-at2 .ensures,
@@ -58,10 +65,7 @@ returns-3 c =
       c .before .part-at6 .ensures,
       c .part-at7 .ensures,
     )
-    (image-good (c .before .before .before .before .before .before .before .before .before .before .before .before .before .before .pre)
-    (c .before .before .before .before .before .before .before .before .before .before .before .before .judge-tags .ensures)
-    (c .before .before .before .before .before .before .before .before .before .before .if1 .left)
-    (c .before .before .before .before .before .before .before .before .before .judge-pieces .ensures) (c .before .before .before .before .before .before .before .if2 .left))
+    (image-good (g .before .before .pre) (g .judge-tags .ensures) (e .if1 .left) _ (h .before .before .judge-pieces .ensures) (h .if2 .left) refl)
 
 pub image-columns-spec : {M : Type 1} → statement M
 image-columns-spec =

@@ -1,4 +1,4 @@
--- `image_laid` passes over the directory, tests the next offset, and goes on with the columns. What a table's cells must satisfy is computed here for the
+-- `image_laid` passes over the directory and goes on with the columns. What a table's cells must satisfy is computed here for the
 -- image's, by `refl`. Assumes nothing.
 use Prim.Native.Nat.{ℕ}
 use mathlib.Core.Path.{refl, _∙_}
@@ -15,20 +15,17 @@ use Rattle.layout.specs.Columns.{fieldOf, column}
 use Rattle.layout.specs.Finding.{cellOf, inCell, slotTags, right}
 use Rattle.lines.specs.Lined.{lineTags}
 use Rattle.layout.proofs.Stages.{part-cut, scan-asked}
-use Rattle.image.proofs.Imaging.{scan-bad, next-bad, scan-passed, scan-good}
+use Rattle.image.proofs.Imaging.{scan-bad, scan-passed, scan-good}
 use Rattle.image.proofs.image_laid.Statement.{statement}
 use Rattle.image.proofs.image_laid.Tie as tie
 use Rattle.tags.specs.Index
 
--- where the function starts, from the pass over the directory, and where that pass is, from behind the two tests
+-- where the function starts, from the pass over the directory, and where that pass is, from behind the test
 abbrev begun : tie.After-scan → tie.Start
 begun c = c .before .before .before .before .before .before .before .before .before
 
 abbrev scanned : tie.After-struct-known → tie.After-scan
 scanned c = c .before .before .before .before .before
-
-abbrev kept7 : tie.Else2 → tie.Else1
-kept7 c = c .before .before
 
 mul-len : tie.Need-mul-len
 mul-len c = omega (arith, scan-asked (c .before .pre))
@@ -91,35 +88,22 @@ returns c =
     let s = rw (part-cut o) at (r .scan .ensures) in
     c .no-image .ensures ∙ scan-bad o (s .0) (c .before .if1 .taken)
 
-no-image-requires-2 : tie.Need-no-image-requires-2
-no-image-requires-2 c κs = search needs
-
-returns-2 : tie.Need-returns-2
-returns-2 c =
-    let e = c .before .before .before in
-    let r = scanned (e .before) in
-    let o = begun r .pre in
-    let s = rw (part-cut o) at (r .scan .ensures) in
-    c .no-image2 .ensures ∙ next-bad o (s .0) (e .if1 .left) (c .before .if2 .taken)
-
 image-columns-requires : tie.Need-image-columns-requires
 unfolding slotTags indexOf build lineTags table
 image-columns-requires c κs =
-    let n = c .before .before .before .before .before in
-    let e = kept7 n in
+    let e = c .before .before .before .before .before in
     let r = scanned (e .before) in
     let o = begun r .pre in
     let s = rw (part-cut o) at (r .scan .ensures) in
     scan-passed o (s .0) (e .if1 .left) refl (s .1)
 
-returns-3 : tie.Need-returns-3
-returns-3 c =
-    let n = c .before .before .before .before .before .before in
-    let e = kept7 n in
+returns-2 : tie.Need-returns-2
+returns-2 c =
+    let e = c .before .before .before .before .before .before in
     let r = scanned (e .before) in
     let o = begun r .pre in
     let s = rw (part-cut o) at (r .scan .ensures) in
-    c .image-columns .ensures ∙ scan-good o (s .0) (e .if1 .left) (n .if2 .left)
+    c .image-columns .ensures ∙ scan-good o (s .0) (e .if1 .left)
 
 pub image-laid-spec : {M : Type 1} → statement M
 image-laid-spec =
@@ -139,7 +123,5 @@ image-laid-spec =
     scan-requires
     no-image-requires
     returns
-    no-image-requires-2
-    returns-2
     image-columns-requires
-    returns-3)
+    returns-2)

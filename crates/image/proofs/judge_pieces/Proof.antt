@@ -120,16 +120,15 @@ judge-places-requires c κs =
     (o .before .outer .ensures) (o .outer2 .ensures) (k .counted .ensures) (l .value3 .ensures)
 
 returns : tie.Need-returns
-unfolding placedOf
 returns c =
-    let k = c .before .before .before .before in
+    let k = c .before .before .before in
     let l = k .before .before .before .before in
     let o = l .before .before in
     let v = o .before .before in
     let w = first-run v in
     let s = slots w in
     pieces-seen (begun s .pre) (s .before .offsets-slot .ensures .0) (s .byte-counts-slot .ensures .0) (w .value .ensures) (v .value2 .ensures)
-    (o .before .outer .ensures) (o .outer2 .ensures) (k .counted .ensures) (l .value3 .ensures) _ (ap (λ (r : Placed). r .verdict) (c .before .judge-places .ensures))
+    (o .before .outer .ensures) (o .outer2 .ensures) (k .counted .ensures) (l .value3 .ensures) _ (c .judge-places .ensures)
 
 pub judge-pieces-spec : {M : Type 1} → statement M
 judge-pieces-spec =
