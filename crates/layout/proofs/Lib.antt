@@ -7,3 +7,4 @@ pub mod Values
 pub mod Stages
 pub mod Repeats
 pub mod Ordering
+pub mod Plain

@@ -1,6 +1,6 @@
 -- One turn of the pass over a directory, from the last entry to the first: what is known of the entries from i on, and what one entry more in
 -- front makes of it. Assumes nothing.
-use Prim.Native.Nat.{ℕ, _+_, _-_, _*_, _≤_, _<_}
+use Prim.Native.Nat.{ℕ, _-_, _≤_, _<_}
 use mathlib.Core.Path.{_≡_, refl, sym, ap, _∙_}
 use mathlib.Core.Bool.{Bool, true, false, cond}
 use mathlib.Core.List.{List, [], _∷_, map}
@@ -9,20 +9,15 @@ use native.Mathlib.Omega.{arith}
 use lib.Dec.{leb}
 use lib.ListN.{length, getD, set, length-map}
 use lib.Seq.{set-out}
-use Rattle.paper.specs.Bytes.{num, build}
-use Rattle.paper.specs.Outcome.{ascending, firstBad, first, orElse, verdict, ordered}
-use Rattle.paper.specs.declared.Outcome.{Outcome}
-use Rattle.paper.specs.declared.Verdict.{Verdict}
+use Rattle.paper.specs.Bytes.{build}
+use Rattle.paper.specs.Outcome.{ascending, firstBad, ordered}
 use Rattle.paper.specs.declared.Entry.{Entry}
-use Rattle.paper.specs.Layout.{entryAt, entries, badValue, nextOffset, rule7}
+use Rattle.paper.specs.Layout.{entryAt, entries, badValue, rule7}
 use Rattle.paper.specs.Tests.{indexOf, distinct}
-use Rattle.paper.specs.Judge.{entryRules}
 use Rattle.paper.proofs.Loops.{build-end}
 use Rattle.paper.proofs.Store.{set-index}
 use Rattle.outcomes.specs.Told.{toldBy}
 use Rattle.outcomes.proofs.Back.{step-back, front, near, told-or, told-rise}
-use Rattle.layout.specs.Opening.{scannedOf, OrderedAs}
-use Rattle.layout.specs.declared.Ordered.{Ordered}
 use Rattle.layout.specs.Finding.{cellOf, inCell, Celled}
 use Rattle.layout.specs.Columns.{fieldOf, column, Columns}
 use Rattle.layout.proofs.Finding.{cell-none, cell-slot}
@@ -165,12 +160,9 @@ module _ {n : ℕ} {big : Bool} {at c : ℕ} {dir : List ℕ} {i six seven next 
   pub pass-known : toldBy six ≡ ascending (map (λ e. e .tag) (entries big at c dir))
   pass-known = rw (← all-entries) (pass .seen .rises)
 
-  pub pass-end : {o : Ordered} {o₆ o₇ : Outcome} {v w : Verdict} {offset : ℕ} → OrderedAs (entries big at c dir) at o → o₇ ≡ toldBy seven → v ≡ orElse 7 o₇ (verdict 0 0)
-      → o₆ ≡ toldBy (o .six) → w ≡ orElse 6 o₆ v → offset ≡ num big 4 dir (2 + 12 * c)
-      → (record { verdict = w; next = offset; further = o .further } ≡ scannedOf (record { size = n; big = big; at = at }) c dir)
-      × Columns ts (entries big at c dir) typs counts starts lens
-  unfolding scannedOf entryRules first nextOffset
-  pass-end known a p b q r =
-      let k : Columns ts (entries big at c dir) typs counts starts lens = rw (← all-entries) (pass .columns) in
-      let seven-is : toldBy seven ≡ rule7 n (entries big at c dir) = rw (← all-entries) (pass .seen .fits) in
-      (rw (q, b, p, a, r, known .six, known .further, seven-is), k)
+  -- and of rule 7
+  pub pass-fits : toldBy seven ≡ rule7 n (entries big at c dir)
+  pass-fits = rw (← all-entries) (pass .seen .fits)
+
+  pub pass-columns : Columns ts (entries big at c dir) typs counts starts lens
+  pass-columns = rw (← all-entries) (pass .columns)

@@ -6,7 +6,7 @@ use mathlib.Core.Bool.{Bool, cond}
 use mathlib.Core.List.{List, [], _∷_}
 use lib.Dec.{eqb}
 use lib.ListN.{length}
-use Rattle.paper.specs.Outcome.{_▸_, first, _▷_}
+use Rattle.paper.specs.Outcome.{_▸_, first, verdict, orElse, _▷_}
 use Rattle.paper.specs.Layout.{rule2, rule3, entries, nextOffset, rule6}
 use Rattle.paper.specs.Judge.{Head, headOf, headIn, countIn, entryRules, headStage, offsetStage, countStage}
 use Rattle.paper.specs.declared.Outcome.{Outcome}
@@ -72,3 +72,8 @@ pub record OrderedAs (es : List Entry) (at : ℕ) (r : Ordered) : Type 0 where
   pub low : r .six ≤ 65536
   pub six : toldBy (r .six) ≡ rule6 es
   pub further : r .further ≡ furtherBy (rule6 es) at es
+
+-- what follows from it and from a number that tells of rule 7, in a directory of c entries
+unfoldable pub concludedOf : Bool → ℕ → List ℕ → Ordered → ℕ → Scanned
+concludedOf big c dir o seven =
+    record { verdict = orElse 6 (toldBy (o .six)) (orElse 7 (toldBy seven) (verdict 0 0)); next = nextOffset big c dir; further = o .further }

@@ -1,18 +1,19 @@
 // The layout of a file: its head, and of a directory its offset, its count and its entries, rules 1 to 7; where the tags of a table stand, and tag
-// 50909 where it stands more than once; an entry's value.
+// 50909 where it stands more than once; an entry's value. `scan` passes over the directory that every file has. It is compiled into its one caller with
+// the caller's table, which a second caller would undo: a directory that few files have is judged by the plainer `judge_entries` and `find`.
 ghost use mathlib.Core.Path.{_≡_};
 ghost use mathlib.Core.Bool.{not, _||_};
 ghost use mathlib.Core.List.{[], map};
-ghost use Prim.Native.Nat.{_+_, _*_, _≤_, _<_};
+ghost use Prim.Native.Nat.{ℕ, _+_, _*_, _≤_, _<_};
 ghost use lib.Dec.{ltb};
 ghost use lib.ListN.{length, getD};
 ghost use Rattle.paper.specs.Bytes.{run};
 ghost use Rattle.paper.specs.declared.Outcome.the-variants.{Kept as kept};
 ghost use Rattle.paper.specs.Outcome.{ascending};
-ghost use Rattle.paper.specs.Layout.{odd, isBig, dirLen, rule2, sizeOf, entryOf, entries, behind, badValue};
+ghost use Rattle.paper.specs.Layout.{odd, isBig, dirLen, rule2, sizeOf, entryOf, entries, behind, badValue, rule7};
 ghost use Rattle.outcomes.specs.Told.{toldBy};
-ghost use Rattle.layout.specs.Opening.{markedOf, headedOf, countedOf, openedOf, scannedOf, OrderedAs};
-ghost use Rattle.layout.specs.Finding.{cellOf, inCell, slotTags, Celled};
+ghost use Rattle.layout.specs.Opening.{markedOf, headedOf, countedOf, openedOf, scannedOf, concludedOf, OrderedAs};
+ghost use Rattle.layout.specs.Finding.{cellOf, inCell, slotTags, Celled, placeIn};
 ghost use Rattle.layout.specs.Columns.{Columns};
 use paper::Entry;
 use paper::Verdict;
@@ -260,8 +261,8 @@ fn is_out_of_order(tag: usize, next: usize) -> bool
     true
 }
 
-// Rule 6 and the further entries of 50909, in one pass from the last entry to the first. Only a file in which a 50909 is not above the tag before it
-// comes here.
+// Rule 6 and the further entries of 50909, in one pass from the last entry to the first. A directory that `scan` passed over comes here only where a 50909
+// is not above the tag before it.
 fn order_again(dir: &[u8], big: bool, at: usize, c: usize) -> Ordered
     requires { ⌜ (dirLen c ≤ length (now dir)) × (c ≤ 1024) × (at < 4294967296) ⌝ }
     ensures { λ r. ⌜ OrderedAs (entries big at c (now (dir .entry))) at r ⌝ }
@@ -310,6 +311,24 @@ fn judge_order(dir: &[u8], big: bool, at: usize, c: usize, six: usize) -> Ordere
     order_again(dir, big, at, c)
 }
 
+// What rules 6 and 7 answer, where it is known of each as a number, and the next offset.
+fn conclude(dir: &[u8], big: bool, c: usize, o: Ordered, seven: usize) -> Scanned
+    requires { ⌜ (dirLen c ≤ length (now dir)) × (c ≤ 1024) × (o .six ≤ 65536) × (seven ≤ 65536) ⌝ }
+    ensures { λ r. ⌜ r ≡ concludedOf big c (now (dir .entry)) o seven ⌝ }
+{
+    let further = o.further;
+    let none = Verdict {
+        number: 0,
+        place: 0,
+    };
+    let last = outcomes::or_else(7, outcomes::told(seven), none);
+    Scanned {
+        verdict: outcomes::or_else(6, outcomes::told(o.six), last),
+        next: order::long(dir, big, 2 + 12 * c) as u32,
+        further,
+    }
+}
+
 // Rules 6 and 7, the next offset, and a column of each field of a table's tags, in one pass from the last entry to the first: at each turn all is known
 // of the entries from i on. The table is given by the cells of its tags, the slot of each cell's tag and the factor that finds a cell; the columns have
 // a number for each slot, and are lent as those of no entry.
@@ -352,17 +371,50 @@ pub fn scan(
         }
     }
     let o = judge_order(dir, big, at, c, six);
-    let further = o.further;
-    let none = Verdict {
-        number: 0,
-        place: 0,
-    };
-    let last = outcomes::or_else(7, outcomes::told(seven), none);
-    Scanned {
-        verdict: outcomes::or_else(6, outcomes::told(o.six), last),
-        next: order::long(dir, big, 2 + 12 * c) as u32,
-        further,
+    conclude(dir, big, c, o, seven)
+}
+
+// ---- a directory that few files have
+
+// One more than the index of the first entry of a tag, 0 where there is none.
+pub fn find(dir: &[u8], big: bool, c: usize, tag: usize) -> usize
+    requires { ⌜ (dirLen c ≤ length (now dir)) × (c ≤ 1024) ⌝ }
+    ensures { λ r. ⌜ ((at : ℕ) → r ≡ placeIn tag (entries big at c (now (dir .entry)))) × (r ≤ c) ⌝ }
+{
+    let mut i = 0;
+    while i < c {
+        if order::short(dir, big, 2 + 12 * i) == tag {
+            return i + 1;
+        }
+        i += 1;
     }
+    0
+}
+
+// Rule 7 as a number: the first tag whose value is bad.
+fn judge_values(dir: &[u8], big: bool, at: usize, c: usize, n: usize) -> usize
+    requires { ⌜ (dirLen c ≤ length (now dir)) × (c ≤ 1024) × (at < 4294967296) ⌝ }
+    ensures { λ r. ⌜ (toldBy r ≡ rule7 n (entries big at c (now (dir .entry)))) × (r ≤ 65536) ⌝ }
+{
+    let mut i = 0;
+    while i < c {
+        let e = entry_at(dir, big, at, 2 + 12 * i);
+        if bad_value(e, n) {
+            return e.tag;
+        }
+        i += 1;
+    }
+    outcomes::NONE
+}
+
+// Rules 6 and 7, the next offset and the further entries of 50909, as `scan` answers them, a pass for each rule.
+pub fn judge_entries(dir: &[u8], big: bool, at: usize, c: usize, n: usize) -> Scanned
+    requires { ⌜ (dirLen c ≤ length (now dir)) × (0 < c) × (c ≤ 1024) × (at + dirLen c ≤ n) × (n ≤ 4294967295) ⌝ }
+    ensures { λ r. ⌜ r ≡ scannedOf (record { size = n; big = big; at = at }) c (now (dir .entry)) ⌝ }
+{
+    let o = order_again(dir, big, at, c);
+    let seven = judge_values(dir, big, at, c, n);
+    conclude(dir, big, c, o, seven)
 }
 
 // The bytes of a value, a part of the file.

@@ -14,6 +14,10 @@ use Rattle.lines.specs.Rows.{tagIn, neededIn, typeIn, otherIn, leastIn, 
 unfoldable pub lineTags : List Line → List ℕ
 lineTags tb = map (λ l. l .tag) tb
 
+-- those of a table's rows
+unfoldable pub rowTags : List (List ℕ) → List ℕ
+rowTags rows = map (λ r. tagIn r) rows
+
 -- two tests give the same
 abbrev pub same : Bool → Bool → Bool
 same true b = b

@@ -4,7 +4,12 @@ ghost use mathlib.Core.Path.{_≡_};
 ghost use mathlib.Core.List.{[]};
 ghost use Prim.Native.Nat.{_*_, _≤_, _<_, min};
 ghost use lib.ListN.{length, getD};
+ghost use Rattle.paper.specs.Layout.{dirLen, entries};
+ghost use Rattle.layout.specs.Finding.{placeIn, foundOf};
+ghost use Rattle.layout.specs.Columns.{Columns};
 ghost use Rattle.lines.specs.Rows.{neededBy, nineOf, unlike, misfit, tenOf, someMisfit};
+ghost use Rattle.lines.specs.Lined.{rowTags};
+use paper::Entry;
 use paper::Outcome;
 
 // The numbers of a row: the tag, when it is needed, the one or two types that it may have, and the least and the most of its count.
@@ -50,6 +55,55 @@ pub fn counted(count: u32) -> usize
 {
     count as usize
 }
+
+// ---- the columns, of a directory that few files have
+
+// The first entry of a tag; where there is none, one of zeros.
+fn look_up(dir: &[u8], big: bool, at: usize, c: usize, tag: u32) -> Entry
+    requires { ⌜ (dirLen c ≤ length (now dir)) × (c ≤ 1024) × (at < 4294967296) ⌝ }
+    ensures { λ r. ⌜ (r ≡ foundOf big at (now (dir .entry)) (placeIn tag (entries big at c (now (dir .entry))))) × (r .typ < 65536) × (r .count < 4294967296) ⌝ }
+{
+    let p = layout::find(dir, big, c, tag as usize);
+    if p == 0 {
+        return Entry {
+            tag: 0,
+            typ: 0,
+            count: 0,
+            start: 0,
+            len: 0,
+        };
+    }
+    layout::entry_at(dir, big, at, 2 + 12 * (p - 1))
+}
+
+// The columns that a pass over a directory leaves, but tag by tag, so that the table needs no cells. Whatever they held is written over.
+pub fn gather(
+    lines: &[[u32; WIDE]],
+    dir: &[u8],
+    big: bool,
+    at: usize,
+    c: usize,
+    typs: &mut [u32],
+    counts: &mut [u32],
+    starts: &mut [usize],
+    lens: &mut [usize],
+)
+    requires { ⌜ (dirLen c ≤ length (now dir)) × (c ≤ 1024) × (at < 4294967296) × (length (now typs) ≡ length (now lines)) × (length (now counts) ≡ length (now lines)) × (length (now starts) ≡ length (now lines)) × (length (now lens) ≡ length (now lines)) ⌝ }
+    ensures { λ _. ⌜ Columns (rowTags (now (lines .entry))) (entries big at c (now (dir .entry))) (now (typs .exit)) (now (counts .exit)) (now (starts .exit)) (now (lens .exit)) ⌝ }
+{
+    let many = lines.len();
+    let mut k = 0;
+    while k < many {
+        let e = look_up(dir, big, at, c, lines[k][TAG]);
+        typs[k] = e.typ as u32;
+        counts[k] = e.count as u32;
+        starts[k] = e.start;
+        lens[k] = e.len;
+        k += 1;
+    }
+}
+
+// ---- the lines
 
 // So many lines are gone through in one loop, and the others in a second one: a loop over some more is not unrolled, and the table would be copied to the
 // stack for it.

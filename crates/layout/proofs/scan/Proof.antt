@@ -8,7 +8,8 @@ use borrow.Author.Needs.{needs}
 use Rattle.layout.proofs.Sizes.{len-of}
 use Rattle.layout.specs.Finding.{slotTags, Celled}
 use Rattle.layout.proofs.Finding.{cell-slot}
-use Rattle.layout.proofs.Turns.{Long, long, Passing, pass-start, turn-in, turn-out, pass-known, pass-end}
+use Rattle.layout.proofs.Turns.{Long, long, Passing, pass-start, turn-in, turn-out, pass-known, pass-fits, pass-columns}
+use Rattle.layout.proofs.Plain.{conclusion}
 use Rattle.layout.proofs.scan.Statement.{statement}
 use Rattle.layout.proofs.scan.Tie as tie
 
@@ -132,48 +133,28 @@ judge-order-requires : tie.Need-judge-order-requires Inv-loop μ-loop
 judge-order-requires c κs =
     (search needs, search needs, omega arith, c .before .loop .inv .near6, pass-known (c .before .loop .inv) (c .loop-test .left))
 
-told-requires : tie.Need-told-requires Inv-loop μ-loop
-told-requires c κs = c .before .before .before .loop .inv .near7
-
-or-else-requires : tie.Need-or-else-requires Inv-loop μ-loop
-or-else-requires c κs = tt
-
-told-requires-2 : tie.Need-told-requires-2 Inv-loop μ-loop
-told-requires-2 c κs = c .before .before .before .judge-order .ensures .low
-
-or-else-requires-2 : tie.Need-or-else-requires-2 Inv-loop μ-loop
-or-else-requires-2 c κs = tt
-
-mul-long : tie.Need-mul-long Inv-loop μ-loop
-mul-long c = omega arith
-
-add-long : tie.Need-add-long Inv-loop μ-loop
-add-long c = omega arith
-
-long-requires : tie.Need-long-requires Inv-loop μ-loop
-long-requires c κs = omega arith
-
-cast-t38 : tie.Need-cast-t38 Inv-loop μ-loop
-cast-t38 c = omega arith
+conclude-requires : tie.Need-conclude-requires Inv-loop μ-loop
+conclude-requires c κs = (search needs, search needs, c .judge-order .ensures .low, c .before .before .loop .inv .near7)
 
 same-length : tie.Need-same-length Inv-loop μ-loop
-same-length c = let l = c .before .before .before .before .before .before .before .before in kept-long l .typs-long ∙ sym (long (started l .pre .7) .typs-long)
+same-length c = let l = c .before .before .before in kept-long l .typs-long ∙ sym (long (started l .pre .7) .typs-long)
 
 same-length-2 : tie.Need-same-length-2 Inv-loop μ-loop
-same-length-2 c = let l = c .before .before .before .before .before .before .before .before in kept-long l .counts-long ∙ sym (long (started l .pre .7) .counts-long)
+same-length-2 c = let l = c .before .before .before in kept-long l .counts-long ∙ sym (long (started l .pre .7) .counts-long)
 
 same-length-3 : tie.Need-same-length-3 Inv-loop μ-loop
-same-length-3 c = let l = c .before .before .before .before .before .before .before .before in kept-long l .starts-long ∙ sym (long (started l .pre .7) .starts-long)
+same-length-3 c = let l = c .before .before .before in kept-long l .starts-long ∙ sym (long (started l .pre .7) .starts-long)
 
 same-length-4 : tie.Need-same-length-4 Inv-loop μ-loop
-same-length-4 c = let l = c .before .before .before .before .before .before .before .before in kept-long l .lens-long ∙ sym (long (started l .pre .7) .lens-long)
+same-length-4 c = let l = c .before .before .before in kept-long l .lens-long ∙ sym (long (started l .pre .7) .lens-long)
 
 returns : tie.Need-returns Inv-loop μ-loop
 returns c =
-    let o = c .before .before .before .before .before .before in
+    let o = c .before in
     let l = o .before in
-    pass-end (l .before .loop .inv) (l .loop-test .left) (o .judge-order .ensures) (c .before .before .before .before .told .ensures)
-    (c .before .before .before .or-else .ensures) (c .before .before .told2 .ensures) (c .before .or-else2 .ensures) (c .long .ensures .0)
+    let pass = l .before .loop .inv in
+    let done = l .loop-test .left in
+    (conclusion _ _ _ _ _ _ (o .judge-order .ensures) (pass-fits pass done) (c .conclude .ensures), pass-columns pass done)
 
 pub scan-spec : {M : Type 1} → statement M
 scan-spec =
@@ -206,14 +187,7 @@ scan-spec =
     loop-less-2
     loop-again-2
     judge-order-requires
-    told-requires
-    or-else-requires
-    told-requires-2
-    or-else-requires-2
-    mul-long
-    add-long
-    long-requires
-    cast-t38
+    conclude-requires
     same-length
     same-length-2
     same-length-3
