@@ -1,8 +1,8 @@
--- The gap around a byte as `gap_of` and `narrow` compute it, whether parts have a byte in a span as `meets` tells, and the ends of a place as `is_out`
--- counts them: one law for each answer, with the facts of its path as premises. Assumes nothing.
+-- The gap around a byte as `gap_of` and `narrow` compute it, whether parts have a byte in a span as `meets`, `meets_named` and `meets_list` tell, and the
+-- ends of a place as `is_out` counts them: one law for each answer, with the facts of its path as premises. Assumes nothing.
 use Prim.Native.Nat.{ℕ, _+_, _-_, _*_, _%_, _≤_, _<_, min, max, zero-le}
 use mathlib.Core.Path.{_≡_, refl, sym, ap, _∙_, subst}
-use mathlib.Core.Bool.{Bool, true, false, cond, not, _&&_, _||_, or-true}
+use mathlib.Core.Bool.{Bool, true, false, cond, not, _&&_, _||_, or-true, and-assoc}
 use mathlib.Core.List.{List, [], _∷_, _++_, append-nil}
 use native.Mathlib.Omega.{arith}
 use native.Mathlib.Nat.{sub-zero, zero-add}
@@ -188,7 +188,7 @@ both-not : (x y : Bool) → not x && not y ≡ not (x || y)
 both-not true y = refl
 both-not false y = refl
 
-either-not : (x y : Bool) → not x || not y ≡ not (x && y)
+pub either-not : (x y : Bool) → not x || not y ≡ not (x && y)
 either-not true y = refl
 either-not false y = refl
 
@@ -205,37 +205,90 @@ met-is start len low high = go (ltb 4 len) refl
         let z : len ≡ 0 → ⊥ = λ q. absurd (omega arith) in
         rw (ne-eqb len 0 z, flipped (start + len) low, flipped high start) (both-not (leb (start + len) low) (leb high start))
 
-module _ (starts lens : List ℕ) (m low high : ℕ) where
+module _ (at : ℕ → Part) (m low high : ℕ) where
   abbrev Meets : List Part → Bool
   Meets ps = not (all (clear low high) ps)
 
   abbrev From : ℕ → List Part
-  From j = partsFrom (partAt starts lens) m [] j
+  From j = partsFrom at m [] j
 
   pub meet-start : false ≡ Meets (From m)
   unfolding all
-  meet-start = sym (ap Meets (parts-none (partAt starts lens) m []))
+  meet-start = sym (ap Meets (parts-none at m []))
 
   module _ (j : ℕ) (met : Bool) (is-met : met ≡ Meets (From j)) where
-    abbrev Last : Part
-    Last = part (getD starts (j - 1) 0) (getD lens (j - 1) 0)
-
-    pub meet-turn : 0 < j → j ≤ m → (here : Bool)
-        → here ≡ wide Last && not (clear low high Last) → here || met ≡ Meets (From (j - 1))
-    unfolding all partAt
-    meet-turn left few here is-here = go (wide Last) refl
+    -- part j - 1
+    meet-part : 0 < j → j ≤ m → (p : Part) → at (j - 1) ≡ p → (here : Bool)
+        → here ≡ wide p && not (clear low high p) → here || met ≡ Meets (From (j - 1))
+    unfolding all
+    meet-part left few p is-p here is-here = go (wide p) refl
       where
-        go : (t : Bool) → wide Last ≡ t → here || met ≡ Meets (From (j - 1))
+        go : (t : Bool) → wide p ≡ t → here || met ≡ Meets (From (j - 1))
         go true e =
-            let h : here ≡ not (clear low high Last) = is-here ∙ rw e in
-            rw (h, is-met, parts-more (partAt starts lens) m [] j left few Last refl e) (either-not (clear low high Last) (all (clear low high) (From j)))
+            let h : here ≡ not (clear low high p) = is-here ∙ rw e in
+            rw (h, is-met, parts-more at m [] j left few p is-p e) (either-not (clear low high p) (all (clear low high) (From j)))
         go false e =
             let h : here ≡ false = is-here ∙ rw e in
-            rw (h, parts-same (partAt starts lens) m [] j left few Last refl e) is-met
+            rw (h, parts-same at m [] j left few p is-p e) is-met
 
-    pub meet-end : j ≤ 0 → met ≡ Meets (partsOf starts lens m)
-    unfolding partsOf
-    meet-end z = is-met ∙ ap Meets (parts-all (partAt starts lens) m [] j z ∙ append-nil _)
+    meet-all : j ≤ 0 → met ≡ Meets (keep wide (build at 0 m))
+    meet-all z = is-met ∙ ap Meets (parts-all at m [] j z ∙ append-nil _)
+
+-- the parts of two columns
+module _ (starts lens : List ℕ) (m low high j : ℕ) (met : Bool) (is-met : met ≡ not (all (clear low high) (partsFrom (partAt starts lens) m [] j))) where
+  abbrev Last : Part
+  Last = part (getD starts (j - 1) 0) (getD lens (j - 1) 0)
+
+  pub meet-turn : 0 < j → j ≤ m → (here : Bool) → here ≡ wide Last && not (clear low high Last)
+      → here || met ≡ not (all (clear low high) (partsFrom (partAt starts lens) m [] (j - 1)))
+  unfolding partAt
+  meet-turn left few = meet-part (partAt starts lens) m low high j met is-met left few Last refl
+
+  pub meet-end : j ≤ 0 → met ≡ not (all (clear low high) (partsOf starts lens m))
+  unfolding partsOf
+  meet-end = meet-all (partAt starts lens) m low high j met is-met
+
+-- and those that a run of entries names
+module _ (big : Bool) (s : List ℕ) (many low high j : ℕ) (met : Bool) (is-met : met ≡ not (all (clear low high) (partsFrom (namedAt big s) many [] j))) where
+  pub named-turn : 0 < j → j ≤ many → (start len : ℕ) → start ≡ num big 4 s (12 * (j - 1) + 8) → len ≡ num big 4 s (12 * (j - 1) + 4)
+      → (here : Bool) → here ≡ wide (part start len) && not (clear low high (part start len))
+      → here || met ≡ not (all (clear low high) (partsFrom (namedAt big s) many [] (j - 1)))
+  unfolding namedAt
+  named-turn left few start len is-start is-len =
+      meet-part (namedAt big s) many low high j met is-met left few (part start len) (sym (λ i. part (is-start i) (is-len i)))
+
+  pub named-end : j ≤ 0 → met ≡ not (all (clear low high) (namedParts big s many))
+  unfolding namedParts
+  named-end = meet-all (namedAt big s) many low high j met is-met
+
+-- a list of two halves
+all-append : (ok : Part → Bool) (ps qs : List Part) → all ok (ps ++ qs) ≡ all ok ps && all ok qs
+unfolding all
+all-append ok [] qs = refl
+all-append ok (p ∷ ps) qs = ap (λ (x : Bool). ok p && x) (all-append ok ps qs) ∙ sym (and-assoc (ok p) (all ok ps) (all ok qs))
+
+module _ (big : Bool) (s : List ℕ) (many : ℕ) (starts lens : List ℕ) (m low high : ℕ) (met : Bool) (is-met : met ≡ not (all (clear low high) (partsOf starts lens m))) where
+  abbrev Halves : Bool
+  Halves = all (clear low high) (namedParts big s many) && all (clear low high) (partsOf starts lens m)
+
+  halves-are : not Halves ≡ not (all (clear low high) (namedParts big s many ++ partsOf starts lens m))
+  halves-are = sym (ap not (all-append (clear low high) (namedParts big s many) (partsOf starts lens m)))
+
+  pub list-met : met ≡ true → true ≡ not (all (clear low high) (namedParts big s many ++ partsOf starts lens m))
+  list-met t = go (all (clear low high) (namedParts big s many)) (all (clear low high) (partsOf starts lens m)) (sym is-met ∙ t) ∙ halves-are
+    where
+      go : (x y : Bool) → not y ≡ true → true ≡ not (x && y)
+      go true y h = sym h
+      go false y h = refl
+
+  pub list-named : met ≡ false → (r : Bool) → r ≡ not (all (clear low high) (namedParts big s many))
+      → r ≡ not (all (clear low high) (namedParts big s many ++ partsOf starts lens m))
+  list-named t r e = e ∙ go (all (clear low high) (namedParts big s many)) (all (clear low high) (partsOf starts lens m)) (sym is-met ∙ t) ∙ halves-are
+    where
+      go : (x y : Bool) → not y ≡ false → not x ≡ not (x && y)
+      go true true h = refl
+      go true false h = sym h
+      go false y h = refl
 
 -- ---- is_out: the ends of a place as counted from lo, in 64 bits
 

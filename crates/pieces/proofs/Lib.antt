@@ -3,3 +3,4 @@ pub mod Gaps
 pub mod Answers
 pub mod Passing
 pub mod Spans
+pub mod Alone

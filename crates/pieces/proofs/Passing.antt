@@ -43,11 +43,11 @@ pub next-small : (i k : ℕ) → i < k → k < 4294967296 → i + 1 < 1844674407
 next-small i k l s = omega arith
 
 -- a place that counts its bytes has some
-some-bytes : (x : ℕ) → eqb x 0 ≡ false → 0 < x
+pub some-bytes : (x : ℕ) → eqb x 0 ≡ false → 0 < x
 some-bytes zero h = absurd (eqb-false 0 0 h refl)
 some-bytes (suc x) h = suc-le-suc zero-le
 
-or-turned : (x y z : Bool) → x || (y || z) ≡ true → y || (x || z) ≡ true
+pub or-turned : (x y z : Bool) → x || (y || z) ≡ true → y || (x || z) ≡ true
 or-turned true true z h = refl
 or-turned true false z h = refl
 or-turned false true z h = refl
@@ -105,23 +105,23 @@ unfolding spanOf spanFrom widened
 lone-first p ss = rw (least-same (p .place .start), most-same (p .place .start + p .place .len))
 
 module _ (big : Bool) (a : ℕ) (offsets : List ℕ) (b : ℕ) (bytecounts : List ℕ) (k : ℕ) where
-  abbrev Places : List Piece
+  abbrev pub Places : List Piece
   Places = placesOf big a offsets b bytecounts k
 
-  abbrev From : ℕ → List Piece
+  abbrev pub From : ℕ → List Piece
   From i = fromPlace big a offsets b bytecounts i k
 
-  from-start : Places ≡ From 0
+  pub from-start : Places ≡ From 0
   unfolding fromPlace placesOf
   from-start = ap (build (placeAt big a offsets b bytecounts) 0) (sym (sub-zero k))
 
   -- no place is left
   module _ (i : ℕ) (l : i ≤ k) (m : k ≤ i) where
-    from-end : From i ≡ []
+    pub from-end : From i ≡ []
     unfolding fromPlace
     from-end = let e : i ≡ k = omega arith in rw e (build-end (placeAt big a offsets b bytecounts) k)
 
-    none-13 : (n : ℕ) → rule13 n (From i) ≡ kept
+    pub none-13 : (n : ℕ) → rule13 n (From i) ≡ kept
     unfolding rule13 firstBad
     none-13 n = ap (rule13 n) from-end
 
@@ -129,25 +129,25 @@ module _ (big : Bool) (a : ℕ) (offsets : List ℕ) (b : ℕ) (bytecounts : Lis
     unfolding rule14 firstBad
     none-14 ps = ap (rule14 ps) from-end
 
-    none-span : (s : Span) → spanFrom s (From i) ≡ s
+    pub none-span : (s : Span) → spanFrom s (From i) ≡ s
     unfolding spanFrom
     none-span s = ap (spanFrom s) from-end
 
   -- ---- place i, with the offset and the byte count that code fetched
 
   module _ (i : ℕ) (l : i < k) (start len : ℕ) (is-start : start ≡ num big a offsets (a * i)) (is-len : len ≡ num big b bytecounts (b * i)) where
-    here : From i ≡ record { index = i; place = part start len } ∷ From (i + 1)
+    pub here : From i ≡ record { index = i; place = part start len } ∷ From (i + 1)
     unfolding fromPlace placeAt
     here =
         build-step (placeAt big a offsets b bytecounts) i k l
         ∙ sym (λ j. record { index = i; place = part (is-start j) (is-len j) } ∷ From (i + 1))
 
     module _ (n : ℕ) where
-      bad-here : eqb len 0 || (ltb start 8 || ltb n (start + len)) ≡ true → rule13 n (From i) ≡ broken i
+      pub bad-here : eqb len 0 || (ltb start 8 || ltb n (start + len)) ≡ true → rule13 n (From i) ≡ broken i
       unfolding rule13 firstBad badPiece
       bad-here h = ap (rule13 n) here ∙ rw h
 
-      good-here : eqb len 0 || (ltb start 8 || ltb n (start + len)) ≡ false → rule13 n (From i) ≡ rule13 n (From (i + 1))
+      pub good-here : eqb len 0 || (ltb start 8 || ltb n (start + len)) ≡ false → rule13 n (From i) ≡ rule13 n (From (i + 1))
       unfolding rule13 firstBad badPiece
       good-here h = ap (rule13 n) here ∙ rw h
 

@@ -1,7 +1,10 @@
 -- The span of some places: from the lowest start up to the highest end. Assumes nothing.
-use Prim.Native.Nat.{_+_, min, max}
+use Prim.Native.Nat.{ℕ, _+_, min, max}
+use mathlib.Core.Bool.{cond}
 use mathlib.Core.List.{List, [], _∷_}
-use Rattle.paper.specs.Pieces.{Piece}
+use lib.Dec.{eqb}
+use Rattle.paper.specs.Outcome.{first, _▸_}
+use Rattle.paper.specs.Pieces.{Piece, rule13}
 use Rattle.paper.specs.declared.Part.{Part}
 use Rattle.paper.specs.declared.Verdict.{Verdict}
 use Rattle.pieces.specs.declared.Placed.{Placed}
@@ -30,3 +33,8 @@ spanOf (p ∷ ps) = spanFrom (lone (p .place)) ps
 -- a verdict with a span
 abbrev pub placed : Verdict → Span → Placed
 placed v s = record { verdict = v; span = s }
+
+-- rule 13 alone, of places in a file of n bytes, and their span where it is kept
+unfoldable pub withinOf : ℕ → List Piece → Placed
+withinOf n ss =
+    placed (first (13 ▸ rule13 n ss ∷ [])) (cond (eqb (first (13 ▸ rule13 n ss ∷ []) .number) 0) (spanOf ss) noSpan)

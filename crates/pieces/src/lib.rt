@@ -1,5 +1,6 @@
-// Where the places of a picture may lie: rules 13 and 14 in one pass, each offset and byte count fetched once. The places are any two runs of
-// numbers, the reading list any two columns and a run of further entries, so that every kind of picture is judged by this one pass.
+// Where the places of a picture may lie: rules 13 and 14 in one pass, each offset and byte count fetched once, and each rule by itself, for a picture
+// that few files have. The places are any two runs of numbers, the reading list any two columns and a run of further entries, so that this serves
+// every kind of picture.
 ghost use mathlib.Core.Path.{_≡_};
 ghost use mathlib.Core.Bool.{true, cond, not, _&&_, _||_};
 ghost use mathlib.Core.List.{List, _++_};
@@ -8,11 +9,12 @@ ghost use lib.Dec.{ltb, eqb};
 ghost use lib.ListN.{length};
 ghost use Rattle.order.specs.Width.{width};
 ghost use Rattle.paper.specs.Outcome.{orElse, verdict};
-ghost use Rattle.paper.specs.Pieces.{part, placesOf, rule13};
-ghost use Rattle.paper.specs.Tests.{all};
+ghost use Rattle.paper.specs.Pieces.{part, placesOf, touches, rule13};
+ghost use Rattle.paper.specs.Tests.{all, some};
+ghost use Rattle.paper.specs.declared.Outcome.the-variants.{Kept as kept};
 ghost use Rattle.paper.specs.declared.Part.{Part};
 ghost use Rattle.pieces.specs.Gaps.{Addable, fromPlace, partsOf, namedParts, wide, clear, Found, Skipped, Reached, placedOf};
-ghost use Rattle.pieces.specs.Spans.{noSpan, widened, placed};
+ghost use Rattle.pieces.specs.Spans.{noSpan, widened, spanOf, placed, withinOf};
 use paper::Verdict;
 
 // A gap of the reading list around a byte: no byte from lo up to hi is on it. Where the byte itself is on the list, it lies below lo.
@@ -40,7 +42,7 @@ pub struct Reach {
     pub span: Span,
 }
 
-// What rules 13 and 14 say of all places, and their span where one is asked for and both are kept.
+// What rules 13 and 14, or 13 alone, say of all places, and their span where one is asked for and they are kept.
 pub struct Placed {
     pub verdict: Verdict,
     pub span: Span,
@@ -522,4 +524,128 @@ pub fn meets(starts: &[usize], lens: &[usize], m: usize, low: usize, high: usize
         met = is_met(starts[j], lens[j], low, high) | met;
     }
     met
+}
+
+// The same of the parts that `many` further entries of type BYTE name.
+fn meets_named(further: &[u8], big: bool, many: usize, low: usize, high: usize) -> bool
+    requires { ⌜ 12 * many ≤ length (now further) ⌝ }
+    ensures { λ r. ⌜ r ≡ not (all (clear low high) (namedParts big (now (further .entry)) many)) ⌝ }
+{
+    let mut met = false;
+    let mut i = many;
+    while 0 < i {
+        i -= 1;
+        let len = order::long(further, big, 12 * i + 4);
+        let from = order::long(further, big, 12 * i + 8);
+        met = is_met(from, len, low, high) | met;
+    }
+    met
+}
+
+// The same of both: the whole reading list.
+fn meets_list(
+    starts: &[usize],
+    lens: &[usize],
+    m: usize,
+    further: &[u8],
+    big: bool,
+    many: usize,
+    low: usize,
+    high: usize,
+) -> bool
+    requires { ⌜ (m ≤ length (now starts)) × (m ≤ length (now lens)) × Addable (now starts) × Addable (now lens) × (12 * many ≤ length (now further)) ⌝ }
+    ensures { λ r. ⌜ r ≡ not (all (clear low high) (namedParts big (now (further .entry)) many ++ partsOf (now (starts .entry)) (now (lens .entry)) m)) ⌝ }
+{
+    if meets(starts, lens, m, low, high) {
+        return true;
+    }
+    meets_named(further, big, many, low, high)
+}
+
+// Rule 13 alone over k places, and their span where it is kept.
+pub fn judge_within(
+    offsets: &[u8],
+    wideoffsets: bool,
+    bytecounts: &[u8],
+    widebytecounts: bool,
+    big: bool,
+    k: usize,
+    n: usize,
+) -> Placed
+    requires { ⌜ (k < 4294967296) × (width wideoffsets * k ≤ length (now offsets)) × (width widebytecounts * k ≤ length (now bytecounts)) × (8 ≤ n) × (n ≤ 4294967295) ⌝ }
+    ensures { λ r. ⌜ r ≡ withinOf n (placesOf big (width wideoffsets) (now (offsets .entry)) (width widebytecounts) (now (bytecounts .entry)) k) ⌝ }
+{
+    if k == 0 {
+        return no_span(Verdict {
+            number: 0,
+            place: 0,
+        });
+    }
+    let start = order::element(offsets, big, wideoffsets, 0);
+    let len = order::element(bytecounts, big, widebytecounts, 0);
+    if is_bad(start, len, n) {
+        return no_span(Verdict {
+            number: 13,
+            place: 0,
+        });
+    }
+    let lone = Span {
+        low: start,
+        high: start + len,
+    };
+    let next = skip_spanned(
+        offsets,
+        wideoffsets,
+        bytecounts,
+        widebytecounts,
+        big,
+        1,
+        k,
+        8,
+        n,
+        lone,
+    );
+    let stop = next.stop;
+    if stop.at < k {
+        return no_span(Verdict {
+            number: 13,
+            place: stop.at as u32,
+        });
+    }
+    kept_all(true, next.span)
+}
+
+// Whether one of k places that keep rule 13 in a file of n bytes shares a byte with the reading list. The places are gone through only where a part
+// of the list has a byte in their span.
+pub fn clashes(
+    offsets: &[u8],
+    wideoffsets: bool,
+    bytecounts: &[u8],
+    widebytecounts: bool,
+    big: bool,
+    k: usize,
+    n: usize,
+    starts: &[usize],
+    lens: &[usize],
+    m: usize,
+    further: &[u8],
+    many: usize,
+    span: Span,
+) -> bool
+    requires { ⌜ (k < 4294967296) × (width wideoffsets * k ≤ length (now offsets)) × (width widebytecounts * k ≤ length (now bytecounts)) × (m ≤ length (now starts)) × (m ≤ length (now lens)) × Addable (now starts) × Addable (now lens) × (12 * many ≤ length (now further)) × (rule13 n (placesOf big (width wideoffsets) (now offsets) (width widebytecounts) (now bytecounts) k) ≡ kept) × (span ≡ spanOf (placesOf big (width wideoffsets) (now offsets) (width widebytecounts) (now bytecounts) k)) ⌝ }
+    ensures { λ r. ⌜ r ≡ some (touches (namedParts big (now (further .entry)) many ++ partsOf (now (starts .entry)) (now (lens .entry)) m)) (placesOf big (width wideoffsets) (now (offsets .entry)) (width widebytecounts) (now (bytecounts .entry)) k) ⌝ }
+{
+    if !meets_list(starts, lens, m, further, big, many, span.low, span.high) {
+        return false;
+    }
+    let mut i = 0;
+    while i < k {
+        let start = order::element(offsets, big, wideoffsets, i);
+        let len = order::element(bytecounts, big, widebytecounts, i);
+        if meets_list(starts, lens, m, further, big, many, start, start + len) {
+            return true;
+        }
+        i += 1;
+    }
+    false
 }
