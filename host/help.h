@@ -5,8 +5,8 @@
 
 static const char help[] =
     "petalbuzz [--text | --plain | --json] [--summary] [--] [FILE...]\n"
-    "Judges GeoTIFF files by their bytes: rules 1 to 22 and 27, drawn from TIFF 6.0, GeoTIFF\n"
-    "and DGIWG 108.\n"
+    "Judges GeoTIFF files by their bytes: rules 1 to 22, 27 and 28, drawn from TIFF 6.0,\n"
+    "GeoTIFF and DGIWG 108.\n"
     "\n"
     "A FILE is a file, a directory, of which every file is judged, or - for standard input.\n"
     "Without one it is file A, an example.\n"
@@ -19,9 +19,10 @@ static const char help[] =
     "  -h, --help prints this\n"
     "  --version  prints which library judges, and from which sources and kit it was built\n"
     "\n"
-    "Verdict 0 is accepted, any other number is the first broken rule; 27 comes directly after 8.\n"
-    "The place is a tag, the index of a strip or tile, or a key. docs/RULES.md says what each\n"
-    "number means, what usually causes it and what to do.\n"
+    "Verdict 0 is accepted, any other number is the first broken rule; 27 comes directly after 7,\n"
+    "28, of a transparency mask, behind 22. The place is a tag, the index of a strip or tile, a\n"
+    "key, or the rule that the mask breaks. docs/RULES.md says what each number means, what\n"
+    "usually causes it and what to do.\n"
     "Status: 0 all accepted, 1 some refused, 2 some not read.\n";
 
 #endif

@@ -184,25 +184,35 @@ static const struct meaning {
 };
 
 /* What a rule's place is the number of. Of a piece the two numbers do not tell
- * whether it is a strip or a tile. */
+ * whether it is a strip or a tile, of a rule that the mask breaks not where. */
 struct noun {
     const char *word;
     const struct thing *named; /* null: it has no name */
 };
 static const struct noun a_tag = {"tag", tags}, a_key = {"key", keys},
-                         a_piece = {"strip or tile", NULL};
+                         a_piece = {"strip or tile", NULL}, a_rule = {"rule", NULL};
 
 /* The rules of every call on a file. */
-#define RULE_NUMBERS "1 to 22 and 27"
+#define RULE_NUMBERS "1 to 22, 27 and 28"
+
+/* What the table of a mask has other than that of the image. */
+#define MASK_NEEDS                                                                                 \
+    "of 254, 256 to 259, 262 and 277, with strips 273, 278 and 279, with tiles 322 to 325"
+#define MASK_ALLOWS                                                                                \
+    "254 = 4, 256 and 257 as in the image, 258 = 1, 259 1, 2 or 32773, 262 = 4, 277 = 1, 278 1 "   \
+    "or more, 284 = 1, 322 and 323 " MULTIPLES
 
 /* The sentence of a rule: its place, what is wrong there, and, behind a joint,
  * what is said of that very tag or key. They stand in the order in which they
- * are tried. */
+ * are tried. The mask keeps 4 to 14 and 27 for itself, and 8 is kept by it alone:
+ * where it breaks one, the last rule has that one's sentence for any place and,
+ * behind the joint, what is said of masks. */
 static const struct rule {
     const struct noun *place; /* null: it has none */
     const char *wrong; /* null: no such rule */
     const char *joint; /* null: no more is said */
     enum column more;
+    const char *mask; /* null: no more is said of masks */
 } rules[] = {
     [0] = {.wrong = "accepted"},
     [1] = {.wrong = "the file's length is below 8 or above 4,294,967,295"},
@@ -210,38 +220,42 @@ static const struct rule {
     [3] = {.wrong = "the number in bytes 2-3 is not 42, that of a classic TIFF file; 43 is BigTIFF, "
                     "which is not judged"},
     [4] = {.wrong = "the directory offset is odd, below 8, or offset + 2 exceeds the file's "
-                    "length"},
+                    "length", .joint = "; ", .mask = "it is the next offset of the image's directory"},
     [5] = {.wrong = "the directory's count is 0 or above 1,024, or the directory ends past the end "
                     "of the file"},
     [6] = {&a_tag, .wrong = "is not greater than the one before; only 50909 may stand more than "
                             "once, side by side"},
     [7] = {&a_tag, .wrong = "has count 0, or its value of more than 4 bytes starts odd, below 8, "
                             "or ends past the end of the file"},
-    [8] = {.wrong = "the next offset is not 0: another directory follows, as for a second page, an "
-                    "overview or a mask"},
+    [8] = {.wrong = "the next offset is not 0: no directory may follow that of the mask"},
     [27] = {.wrong = "tags of both strips (273, 278, 279) and tiles (322 to 325) are present, or of "
                      "neither"},
-    [9] = {&a_tag, "is needed and absent", ", ", NEEDED},
-    [10] = {&a_tag, "has another type or count", "; right: ", FORM},
-    [11] = {&a_tag, "has a value that is not allowed", "; allowed: ", ALLOWED},
-    [12] = {&a_tag, "disagrees with other tags", ": ", FAULT},
+    [9] = {&a_tag, "is needed and absent", ", ", NEEDED, MASK_NEEDS},
+    [10] = {&a_tag, "has another type or count", "; right: ", FORM,
+        "254 type LONG, count 1; all others as the image's table has them"},
+    [11] = {&a_tag, "has a value that is not allowed", "; allowed: ", ALLOWED, MASK_ALLOWS},
+    [12] = {&a_tag, "disagrees with other tags", ": ", FAULT,
+        "the count of 258 is not 1, or that of 273, 279, 324 or 325 is not the number of strips or "
+        "tiles"},
     [13] = {&a_piece, .wrong = "has byte count 0, an offset below 8, or ends past the end of the "
                                "file: look at its offset (tag 273 or 324), its byte count (279 or "
                                "325) and the file's length"},
     [14] = {&a_piece, .wrong = "shares a byte with the reading list, which is the head, the "
                                "directory and the values of the table's tags: look at where its "
                                "bytes begin and end (tags 273 and 279, or 324 and 325) and where "
-                               "these stand"},
+                               "these stand", .joint = "; ",
+        .mask = "it is one of the image or of the mask, and the list is that of both directories"},
     [15] = {.wrong = "the key directory's first three numbers are not 1, 1, and 0 or 1, or the "
                      "fourth, K, exceeds 256, or the tag's count is below 4 + 4K"},
     [16] = {&a_key, .wrong = "is not greater than the one before"},
-    [17] = {&a_key, "has a wrong location, count or value index", "; right: ", FORM},
-    [18] = {&a_key, "is needed and absent", ", ", NEEDED},
-    [19] = {&a_key, "has a value that is not allowed", "; allowed: ", ALLOWED},
+    [17] = {&a_key, "has a wrong location, count or value index", "; right: ", FORM, NULL},
+    [18] = {&a_key, "is needed and absent", ", ", NEEDED, NULL},
+    [19] = {&a_key, "has a value that is not allowed", "; allowed: ", ALLOWED, NULL},
     [20] = {.wrong = "the file has neither scale and tiepoint with no matrix, nor matrix with no "
                      "scale and no tiepoint"},
-    [21] = {&a_tag, "cannot place the picture on the ground", ": ", FAULT},
+    [21] = {&a_tag, "cannot place the picture on the ground", ": ", FAULT, NULL},
     [22] = {.wrong = "a corner coordinate is not finite"},
+    [28] = {&a_rule, .wrong = "the transparency mask breaks"},
 };
 enum { RULES = sizeof rules / sizeof rules[0], SENTENCE = 512 };
 
@@ -277,6 +291,8 @@ static void say_rule(char sentence[SENTENCE], uint32_t verdict) {
         snprintf(sentence, SENTENCE, "rule %u is broken", verdict);
     else if (!rule->place)
         snprintf(sentence, SENTENCE, "%s", rule->wrong);
+    else if (rule->place == &a_rule)
+        snprintf(sentence, SENTENCE, "%s a %s", rule->wrong, rule->place->word);
     else
         snprintf(sentence, SENTENCE, "a %s %s", rule->place->word, rule->wrong);
 }
@@ -294,18 +310,38 @@ static void say_place(char words[SENTENCE], uint32_t verdict, uint32_t place) {
              name ? ")" : "");
 }
 
+/* Adds what more is said, if there is more, behind a rule's joint. */
+static void add_more(char sentence[SENTENCE], const struct rule *rule, const char *more) {
+    size_t len = strlen(sentence);
+    if (more) snprintf(sentence + len, SENTENCE - len, "%s%s", rule->joint, more);
+}
+
+/* Writes the sentence of the rule on masks, for one rule that the mask breaks. */
+static void say_mask(char sentence[SENTENCE], const struct rule *rule, uint32_t broken) {
+    size_t len = (size_t)snprintf(sentence, SENTENCE, "%s %s %u: ", rule->wrong, rule->place->word,
+                                  broken);
+    char words[SENTENCE];
+    say_rule(words, broken);
+    snprintf(sentence + len, SENTENCE - len, "%s", words);
+    if (rule_of(broken)) add_more(sentence, rule_of(broken), rule_of(broken)->mask);
+}
+
 /* Writes the sentence of a rule, for one place. */
 static void say(char sentence[SENTENCE], uint32_t verdict, uint32_t place) {
+    const struct rule *rule = rule_of(verdict);
     if (!has_place(verdict)) {
         say_rule(sentence, verdict);
         return;
     }
-    const struct rule *rule = rule_of(verdict);
-    const char *more = rule->joint ? find(rule->place->named, place)->says[rule->more] : NULL;
+    if (rule->place == &a_rule) {
+        say_mask(sentence, rule, place);
+        return;
+    }
+    const struct thing *named = rule->place->named;
     say_place(sentence, verdict, place);
     size_t len = strlen(sentence);
-    snprintf(sentence + len, SENTENCE - len, " %s%s%s", rule->wrong, more ? rule->joint : "",
-             more ? more : "");
+    snprintf(sentence + len, SENTENCE - len, " %s", rule->wrong);
+    add_more(sentence, rule, named && rule->joint ? find(named, place)->says[rule->more] : NULL);
 }
 
 #endif

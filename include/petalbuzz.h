@@ -12,10 +12,19 @@
  *
  * Every call gives two numbers. The verdict is 0 for an accepted file, else
  * the number of the first broken rule. The place says where, as the rule has
- * it. Rules 1 to 22 and 27, which comes directly after 8, are the same in every
- * call on a file; 23 to 26 and 29 come after all of them and are told where a
- * call has them. With any verdict but 0 all other numbers are 0 and memory lent
- * for writing keeps its bytes.
+ * it. Rules 1 to 7, then 27, then 9 to 22, then 28, which is of a transparency
+ * mask, are the same in every call on a file; 23 to 26 and 29 come after all of
+ * them and are told where a call has them. With any verdict but 0 all other
+ * numbers are 0 and memory lent for writing keeps its bytes.
+ *
+ * A file may hold a mask: the directory of the image, at the offset in bytes 4
+ * to 7, ends in a next offset, and where that is not 0 the directory of the mask
+ * stands there. What a call answers is of the image, with a mask or without. The
+ * mask keeps rules 4 to 8, 27 and 9 to 14 for itself, by a table of its own; 8 is
+ * of the mask alone. A verdict depends on the length and on the reading list:
+ * bytes 0 to 7, both directories and the values of their tables' tags, as far as
+ * the rules were kept; with 1 to 22 or 27 nothing of the mask is on it. In an
+ * accepted file no byte of either picture is.
  *
  * The functions named *_file or *_runs answer a struct: a host calls these.
  * Each of their pointers may be null, whatever length stands beside it: a null
@@ -40,7 +49,8 @@ extern "C" {
 
 /* The verdicts: what is wrong, and behind a colon what the place is, the first
  * one of several; without a colon the place is 0. A piece is a strip or a tile,
- * counted from 0; outside is below byte 8 or past the end of the file. */
+ * counted from 0; outside is below byte 8 or past the end of the file. 4 to 14
+ * and 27 are also the places of PETALBUZZ_MASK, and 8 is nothing else. */
 enum petalbuzz_verdict {
     PETALBUZZ_ACCEPTED = 0,
     PETALBUZZ_FILE_LENGTH = 1,      /* below 8 or above 4,294,967,295 bytes */
@@ -51,13 +61,15 @@ enum petalbuzz_verdict {
     PETALBUZZ_TAG_ORDER = 6,        /* a tag is smaller than the one before, or equal and not
                                      * 50909: the later tag */
     PETALBUZZ_TAG_VALUE_PLACE = 7,  /* a value is empty, starts odd or lies outside: its tag */
-    PETALBUZZ_NEXT_OFFSET = 8,      /* another directory is said to follow */
+    PETALBUZZ_NEXT_OFFSET = 8,      /* no verdict: behind the mask another directory is said to
+                                     * follow */
     PETALBUZZ_TAG_ABSENT = 9,       /* a needed tag is absent: the tag */
     PETALBUZZ_TAG_FORM = 10,        /* a tag has another type or count: the tag */
     PETALBUZZ_TAG_VALUE = 11,       /* a tag's value is not allowed: the tag */
     PETALBUZZ_TAGS_DISAGREE = 12,   /* a tag does not fit the others: the tag */
     PETALBUZZ_PIECE_PLACE = 13,     /* a piece is empty or lies outside: its index */
-    PETALBUZZ_PIECE_ON_LIST = 14,   /* a piece shares a byte with what the judge reads: its index */
+    PETALBUZZ_PIECE_ON_LIST = 14,   /* a piece shares a byte with what the judge reads: its index;
+                                     * as a place of 28 a piece of either picture */
     PETALBUZZ_KEY_HEADER = 15,      /* the key directory's first four numbers are absent or wrong */
     PETALBUZZ_KEY_ORDER = 16,       /* a key is not greater than the one before: the later key */
     PETALBUZZ_KEY_FORM = 17,        /* a key's location, count or value index is wrong: the key */
@@ -71,6 +83,7 @@ enum petalbuzz_verdict {
     PETALBUZZ_BLOCK_ROOM = 25,      /* the memory lent is too short: the bytes needed */
     PETALBUZZ_NO_CITATION = 26,     /* the key is absent or no ASCII key: the key asked for */
     PETALBUZZ_FAMILIES = 27,        /* tags of both strips and tiles, or of neither */
+    PETALBUZZ_MASK = 28,            /* the transparency mask breaks a rule: that rule's number */
     PETALBUZZ_NO_TEXT = 29,         /* there is no text of that number: the number asked for */
 };
 

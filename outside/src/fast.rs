@@ -10,15 +10,18 @@
 //! code, and all reads are from arrays of known length, so no unsafe code is
 //! needed to be rid of the bounds. Further metadata tags are seldom there: they
 //! stay in the directory, and their entries are read again for each gap that is
-//! looked for.
+//! looked for. So are masks: a file with a next offset takes a path of its own,
+//! which keeps where the picture begins and ends. The image's pieces are looked at
+//! again only where a part of the mask stands between these two.
 
 mod ground;
 mod keys;
+mod mask;
 mod number;
 mod pieces;
 mod tags;
 
-use number::{long_at, short_at};
+use number::{long, long_at, short_at};
 use tags::Tags;
 
 /// The first broken rule and its place.
@@ -78,17 +81,9 @@ fn examine(file: &[u8], ground: &mut Ground) -> Result<(), Refusal> {
     }
 }
 
-/// Rules 3 to 22 and 27.
-#[inline]
-fn in_order<const BIG: bool>(
-    file: &[u8],
-    head: &[u8; 8],
-    ground: &mut Ground,
-) -> Result<(), Refusal> {
-    if short_at::<BIG, 8>(head, 2) != 42 {
-        return refuse(3, 0);
-    }
-    let at = long_at::<BIG, 8>(head, 4) as usize;
+/// Rules 4 and 5: the entries of a directory at `at`, and its next offset.
+#[inline(always)]
+fn directory<const BIG: bool>(file: &[u8], at: usize) -> Result<(&[[u8; 12]], &[u8; 4]), Refusal> {
     if !at.is_multiple_of(2) || at < 8 {
         return refuse(4, 0);
     }
@@ -101,12 +96,31 @@ fn in_order<const BIG: bool>(
     }
     let Some((entries, next)) = rest.split_at_checked(12 * count) else { return refuse(5, 0) };
     let Some(next) = next.first_chunk::<4>() else { return refuse(5, 0) };
-    let mut tags = Tags::new(at as u32, count as u32);
-    if tags.rules6to9::<BIG>(file.len() as u64, entries.as_chunks::<12>().0, next)? {
+    Ok((entries.as_chunks::<12>().0, next))
+}
+
+/// Rules 3 to 22, 27 and 28.
+#[inline]
+fn in_order<const BIG: bool>(
+    file: &[u8],
+    head: &[u8; 8],
+    ground: &mut Ground,
+) -> Result<(), Refusal> {
+    if short_at::<BIG, 8>(head, 2) != 42 {
+        return refuse(3, 0);
+    }
+    let at = long_at::<BIG, 8>(head, 4) as usize;
+    let (entries, next) = directory::<BIG>(file, at)?;
+    let mut tags = Tags::new(at as u32, entries.len() as u32);
+    tags.rules6and7::<BIG, false>(file.len() as u64, entries)?;
+    if *next != [0; 4] {
+        return with_mask::<BIG>(file, &mut tags, long::<BIG>(*next) as usize, ground);
+    }
+    if tags.rules27and9::<false>()? {
         in_tiles::<BIG>(file, &mut tags)?;
     } else {
-        tags.rules10to12::<BIG, false>(file)?;
-        pieces::rules13and14::<BIG, false>(file, &tags)?;
+        tags.rules10to12::<BIG, false, false>(file)?;
+        pieces::rules13and14::<BIG, false, false>(file, &tags)?;
     }
     let raster = keys::rules15to19::<BIG>(file, &tags)?;
     ground::rules20to22::<BIG>(file, &tags, raster, ground)
@@ -115,6 +129,29 @@ fn in_order<const BIG: bool>(
 /// Rules 10 to 14 of a picture in tiles, apart from the path of strips.
 #[inline(never)]
 fn in_tiles<const BIG: bool>(file: &[u8], tags: &mut Tags) -> Result<(), Refusal> {
-    tags.rules10to12::<BIG, true>(file)?;
-    pieces::rules13and14::<BIG, true>(file, tags)
+    tags.rules10to12::<BIG, true, false>(file)?;
+    pieces::rules13and14::<BIG, true, false>(file, tags)?;
+    Ok(())
+}
+
+/// Rules 27 and 9 to 22 of an image that leads to a mask, then 28.
+#[inline(never)]
+fn with_mask<const BIG: bool>(
+    file: &[u8],
+    tags: &mut Tags,
+    next: usize,
+    ground: &mut Ground,
+) -> Result<(), Refusal> {
+    let tiled = tags.rules27and9::<false>()?;
+    let span = if tiled {
+        tags.rules10to12::<BIG, true, false>(file)?;
+        pieces::rules13and14::<BIG, true, true>(file, tags)?
+    } else {
+        tags.rules10to12::<BIG, false, false>(file)?;
+        pieces::rules13and14::<BIG, false, true>(file, tags)?
+    };
+    let raster = keys::rules15to19::<BIG>(file, tags)?;
+    ground::rules20to22::<BIG>(file, tags, raster, ground)?;
+    let image = mask::Image { tags, tiled, span };
+    mask::rules4to14::<BIG>(file, &image, next).or_else(|refusal| refuse(28, refusal.rule))
 }

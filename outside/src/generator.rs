@@ -5,7 +5,8 @@
 //! keys; `valid` draws files that keep every rule; `damage` spoils them at
 //! random; `targeted` breaks each clause at its exact boundary and states the
 //! verdict by construction; `large` makes files of very many pieces. A mosaic is
-//! a file with more than one metadata tag.
+//! a file with more than one metadata tag, and the plan of a mask has the image's
+//! with it.
 
 pub mod damage;
 pub mod keyplan;
@@ -28,19 +29,26 @@ pub struct Sample {
 }
 
 /// File number `number` of the mix with this seed. Every second is damaged, one
-/// of every sixteen in the header of its keys; two of every eight are mosaics; and
-/// about half are made in minor revision 1.
+/// of every sixteen in the header of its keys; two of every eight are mosaics, two
+/// have a mask; and about half are made in minor revision 1.
 pub fn sample(seed: u64, number: u64) -> Sample {
     let random = Random::new(seed).branch(number);
     let minor = random.branch(1).below(2) as u16;
     match number % 16 {
+        2 | 3 | 10 | 11 => drawn(random, number, minor, valid::masked, damage::masked),
         6 | 7 | 14 | 15 => drawn(random, number, minor, valid::mosaic, damage::mosaic),
         13 => drawn(random, number, minor, valid::file, damage::header),
         _ => drawn(random, number, minor, valid::file, damage::damage),
     }
 }
 
-/// The same in the mix without mosaics, where all are made in minor revision 0.
+/// The same in the mix of files with a mask, all in minor revision 0.
+pub fn masked_sample(seed: u64, number: u64) -> Sample {
+    drawn(Random::new(seed).branch(number), number, 0, valid::masked, damage::masked)
+}
+
+/// The same in the mix without mosaics and masks, where all are made in minor
+/// revision 0.
 pub fn plain_sample(seed: u64, number: u64) -> Sample {
     drawn(Random::new(seed).branch(number), number, 0, valid::file, damage::damage)
 }

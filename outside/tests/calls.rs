@@ -10,9 +10,9 @@ use outside::compiled::asking::{
 };
 use outside::compiled::{ask, Question, Symbol};
 use outside::generator::prng::Random;
-use outside::generator::{random, sample, targeted, Call, Case};
+use outside::generator::{masked_sample, random, sample, targeted, Call, Case};
 use outside::reader::tables::KEYS;
-use outside::reader::{judge, judgements, texts, Order};
+use outside::reader::{judge, judgements, texts, Order, Verdict};
 use std::collections::BTreeMap;
 
 /// Files are asked about in runs of so many.
@@ -30,6 +30,13 @@ fn every_call_agrees(files: &[Vec<u8>], seed: u64) {
 fn every_call_agrees_on_generated_files() {
     let files = random(61, 8_000).into_iter().map(|sample| sample.file);
     every_call_agrees(&files.collect::<Vec<_>>(), 61);
+}
+
+#[test]
+fn every_call_agrees_on_files_with_a_mask() {
+    let mixed = (0..3_000).map(|number| masked_sample(77, number).file);
+    let named = common::masks::sorts().flat_map(common::masks::named).map(|case| case.file);
+    every_call_agrees(&mixed.chain(named).collect::<Vec<_>>(), 77);
 }
 
 #[test]
@@ -158,24 +165,32 @@ fn texts_of_every_number_agree() {
     agree(&far.map(|number| metadata(&files[0], b"outside", number)).collect::<Vec<_>>());
 }
 
-/// Files of every verdict, at most `most` of each, and as many mosaics.
+/// Files of every verdict, of 28 for every rule of a mask, at most `most` of each,
+/// and as many mosaics.
 fn of_every_verdict(most: usize) -> Vec<Vec<u8>> {
-    let mut seen: BTreeMap<(u32, bool), usize> = BTreeMap::new();
+    let mut seen: BTreeMap<(u32, bool, u32), usize> = BTreeMap::new();
     let mixed = (0..6_000).map(|number| sample(73, number).file);
     let plain = targeted(73).into_iter().filter(|case| matches!(case.call, Call::Judge));
     let mut files: Vec<Vec<u8>> = mixed.chain(plain.map(|case| case.file)).collect();
     files.retain(|file| {
         let several = tags(file).iter().filter(|tag| **tag == 50909).count() > 1;
-        let count = seen.entry((judge(file).verdict.number, several)).or_insert(0);
+        let Verdict { number, place } = judge(file).verdict;
+        let of_mask = if number == 28 { place } else { 0 };
+        let count = seen.entry((number, several, of_mask)).or_insert(0);
         *count += 1;
         *count <= most
     });
     for several in [false, true] {
-        let with = seen.keys().filter(|(_, other)| *other == several).map(|(number, _)| *number);
+        let mut with: Vec<u32> =
+            seen.keys().filter(|kind| kind.1 == several).map(|kind| kind.0).collect();
+        with.dedup();
         // without a whole directory no tag is there
-        let all = judgements().filter(|number| !several || *number == 0 || *number > 5);
-        assert!(with.filter(|number| !several || *number == 0 || *number > 5).eq(all), "{seen:?}");
+        let whole = |number: &u32| !several || *number == 0 || *number > 5;
+        let all = judgements().filter(whole);
+        assert!(with.into_iter().filter(whole).eq(all), "{seen:?}");
     }
+    let places = seen.keys().filter(|kind| kind.0 == 28 && !kind.1).map(|kind| kind.2);
+    assert!(places.eq((4..=14).chain([27])), "{seen:?}");
     files
 }
 

@@ -4,8 +4,8 @@
 mod common;
 
 use outside::compiled::{ask, disagreements, expected, Answer, Question, Symbol};
-use outside::generator::large::{many_pieces, many_texts};
-use outside::generator::{sample, targeted, Call};
+use outside::generator::large::{many_masked, many_pieces, many_texts};
+use outside::generator::{masked_sample, sample, targeted, Call};
 use outside::reader::tables::BOTH;
 use outside::reader::Order;
 
@@ -22,6 +22,26 @@ fn a_hundred_thousand_generated_files_agree() {
     for run in 0..100_000 / RUN {
         let numbers = run * RUN..(run + 1) * RUN;
         agree(&numbers.map(|number| sample(51, number).file).collect::<Vec<_>>());
+    }
+}
+
+#[test]
+fn files_with_a_mask_agree() {
+    agree(&(0..20_000).map(|number| masked_sample(53, number).file).collect::<Vec<_>>());
+    let sorts = [(1, false), (1, true), (40_000, false), (40_000, true)];
+    for order in [Order::Little, Order::Big] {
+        let of = |(masks, among)| many_masked(order, 40_000, 3, masks, among);
+        agree(&sorts.map(of));
+    }
+}
+
+#[test]
+fn named_files_with_a_mask_agree() {
+    let named: Vec<_> = common::masks::sorts().flat_map(common::masks::named).collect();
+    agree(&named.iter().map(|case| case.file.clone()).collect::<Vec<_>>());
+    let questions = named.iter().map(|case| Question::on(Symbol::Judge, &case.file));
+    for (case, reply) in named.iter().zip(ask(&questions.collect::<Vec<_>>())) {
+        assert_eq!((reply.numbers.verdict, reply.numbers.place), case.want, "{}", case.why);
     }
 }
 

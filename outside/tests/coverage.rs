@@ -33,6 +33,23 @@ fn every_clause_is_kept_at_its_boundary_by_some_case() {
     assert_eq!(missing(&kept.collect()), Vec::<&str>::new());
 }
 
+/// Both sides of every clause of a mask, in files of either byte order.
+#[test]
+fn every_clause_of_a_mask_is_broken_and_kept_in_either_byte_order() {
+    let mut seen: BTreeSet<(&str, bool, u8)> = BTreeSet::new();
+    let cases = targeted(16);
+    seen.extend(cases.iter().filter(|case| case.clause.starts_with("28 ")).map(|case| {
+        let clause = if case.broken { case.answer().1 } else { case.clause };
+        (clause, case.broken, case.file[0])
+    }));
+    let clauses = CLAUSES.iter().filter(|clause| clause.starts_with("28 "));
+    for clause in clauses.filter(|clause| !unreachable(clause)) {
+        for (broken, order) in [(false, b'I'), (false, b'M'), (true, b'I'), (true, b'M')] {
+            assert!(seen.contains(&(*clause, broken, order)), "{clause} {broken} {order}");
+        }
+    }
+}
+
 /// The third number of the key directory of a case.
 fn minor(case: &Case) -> Option<usize> {
     match &case.call {

@@ -3,11 +3,12 @@
 mod common;
 
 use outside::compiled::{expected, fast};
-use outside::generator::large::{many_pieces, many_texts};
+use outside::generator::large::{many_masked, many_pieces, many_texts};
 use outside::generator::plan::{Plan, Tag};
-use outside::generator::{sample, targeted, Call};
-use outside::reader::tables::{BOTH, TAGS};
-use outside::reader::{texts, Order};
+use outside::generator::{masked_sample, sample, targeted, Call};
+use outside::reader::tables::{Family, BOTH, TAGS};
+use outside::reader::{leads_on, reading_list, texts, Order};
+use std::collections::BTreeSet;
 
 fn agrees(file: &[u8]) {
     let (got, want) = (fast(file), expected(file));
@@ -31,7 +32,7 @@ fn the_fast_judge_agrees_on_the_files_of_real_producers() {
     let files = common::field();
     files.iter().for_each(|file| agrees(file));
     let accepted = files.iter().filter(|file| expected(file).verdict == 0).count();
-    assert_eq!((files.len(), accepted), (79, 43), "as docs/FIELD.md has them");
+    assert_eq!((files.len(), accepted), (101, 54), "as docs/FIELD.md has them");
 }
 
 /// Every number there is in the place of the minor revision.
@@ -43,6 +44,47 @@ fn the_fast_judge_agrees_on_every_minor_revision() {
         for minor in 0..=65_535 {
             laid.put_short(third, minor);
             agrees(&laid.bytes);
+        }
+    }
+}
+
+#[test]
+fn the_fast_judge_agrees_on_files_with_a_mask() {
+    let mut of_masks = BTreeSet::new();
+    for number in 0..50_000 {
+        let file = masked_sample(43, number).file;
+        agrees(&file);
+        let answer = expected(&file);
+        of_masks.extend((answer.verdict == 28).then_some(answer.place));
+    }
+    assert_eq!(of_masks, (4..=14).chain([27]).collect::<BTreeSet<u32>>());
+}
+
+/// A mask behind very many strips and among them, in one strip and in as many, and
+/// a strip on each part of it.
+#[test]
+fn the_fast_judge_agrees_on_a_mask_beside_many_strips() {
+    for order in [Order::Little, Order::Big] {
+        for (masks, among) in [(1, false), (1, true), (2_000, false), (2_000, true)] {
+            let file = many_masked(order, 2_000, 3, masks, among);
+            assert_eq!(expected(&file).verdict, 0);
+            assert!(leads_on(&file));
+            agrees(&file);
+            let plain = many_pieces(order, Family::Strips, 2_000, 3);
+            let offsets = plain.len() - 11 * 2_000;
+            let parts: Vec<u64> = reading_list(&file).iter().map(|part| part.start).collect();
+            for strip in [0, 999, 1_000, 1_999] {
+                for part in &parts[parts.len() - 10..] {
+                    let mut on = file.clone();
+                    let at = offsets + 4 * strip;
+                    on[at..at + 4].copy_from_slice(&match order {
+                        Order::Little => (*part as u32).to_le_bytes(),
+                        Order::Big => (*part as u32).to_be_bytes(),
+                    });
+                    assert_eq!((expected(&on).verdict, expected(&on).place), (28, 14));
+                    agrees(&on);
+                }
+            }
         }
     }
 }

@@ -1,4 +1,5 @@
-//! The marked examples of document 01, with request C-13, on file A by its bytes.
+//! The marked examples of document 01, with requests C-13 and C-14, on file A by
+//! its bytes.
 
 mod common;
 
@@ -54,7 +55,7 @@ fn minor_revision_1_is_said_and_changes_nothing_else() {
 fn one_change_each() {
     refused(&[], 1, 0);
     refused(&changed(0, &[0x4D, 0x4D]), 3, 0);
-    refused(&changed(NEXT_OFFSET, &[8, 0, 0, 0]), 8, 0);
+    refused(&changed(NEXT_OFFSET, &[8, 0, 0, 0]), 28, 8);
     refused(&changed(OFFSET_OF_STRIP, &[0x07, 0x01]), 13, 0);
     refused(&changed(OFFSET_OF_STRIP, &[0x05, 0x01]), 14, 0);
     refused(&changed(KEYS + 4, &[2, 0]), 15, 0);
@@ -101,11 +102,13 @@ fn the_reading_list_grows_with_the_verdict() {
     assert_eq!(listed_to(&changed(8, &[0]), 5), 10);
     assert_eq!(listed_to(&changed(ENTRY_0, &[2]), 6), 158);
     assert_eq!(listed_to(&changed(ENTRY_0 + 4, &[0]), 7), 158);
-    assert_eq!(listed_to(&changed(NEXT_OFFSET, &[8]), 8), 262);
     assert_eq!(listed_to(&changed(ENTRY_0, &[0xFF, 0]), 9), 262);
     assert_eq!(listed_to(&changed(ENTRY_0 + 8, &[0]), 11), 262);
     assert_eq!(listed_to(&changed(KEYS, &[0]), 15), 262);
     assert_eq!(listed_to(&changed(SCALE, &[0; 8]), 21), 262);
+    // of a mask at 9 there is nothing, and one at 8 is the image's directory
+    assert_eq!(listed_to(&changed(NEXT_OFFSET, &[9]), 28), 262);
+    assert_eq!(listed_to(&changed(NEXT_OFFSET, &[8]), 28), 262);
     let largest = [0xFF, 0xFF, 0xFF, 0xFF, 0xFF, 0xFF, 0xEF, 0x7F];
     assert_eq!(listed_to(&changed(SCALE, &largest), 22), 262);
 }

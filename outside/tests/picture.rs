@@ -3,7 +3,7 @@
 
 mod common;
 
-use common::{held, repainted, tags, UNTOUCHED};
+use common::{held, repainted, UNTOUCHED};
 use outside::generator::prng::Random;
 use outside::generator::{random, targeted, Call};
 use outside::reader::{
@@ -102,12 +102,13 @@ fn files() -> Vec<Vec<u8>> {
 #[test]
 fn repainting_changes_no_answer() {
     let mut random = Random::new(22);
-    let mut verdicts = BTreeSet::new();
+    let (mut verdicts, mut of_masks) = (BTreeSet::new(), BTreeSet::new());
     let (mut painted, mut several) = (0, 0);
     for file in files() {
         let numbers = numbers(&file);
         let before = answers(&file, &numbers);
         verdicts.insert(before.verdict.number);
+        of_masks.extend((before.verdict.number == 28).then_some(before.verdict.place));
         for _ in 0..2 {
             let other = repainted(&file, &mut random);
             painted += usize::from(other != file);
@@ -116,31 +117,35 @@ fn repainting_changes_no_answer() {
         }
     }
     assert_eq!(verdicts, judgements().collect::<BTreeSet<u32>>());
+    assert_eq!(of_masks, (4..=14).chain([27]).collect::<BTreeSet<u32>>());
     assert!(painted > 3_000, "{painted}");
     assert!(several > 500, "{several} of several texts");
 }
 
 #[test]
 fn in_an_accepted_file_no_byte_of_a_piece_is_listed() {
-    let mut seen = [0, 0];
+    let mut seen = [[0; 2]; 2];
     for sample in random(23, 2_000).into_iter().filter(|sample| !sample.damaged) {
         let list = listed(&sample.file);
-        let (tiled, pieces) = pieces(&sample.file);
-        seen[usize::from(tiled)] += 1;
-        for piece in pieces {
-            assert!(list[piece].iter().all(|listed| !listed));
+        for (which, (tiled, pieces)) in pictures(&sample.file).into_iter().enumerate() {
+            seen[which][usize::from(tiled)] += 1;
+            for piece in pieces {
+                assert!(list[piece].iter().all(|listed| !listed));
+            }
         }
     }
-    assert!(seen.iter().all(|files| *files > 300), "strips and tiles: {seen:?}");
+    assert!(seen[0].iter().all(|files| *files > 300), "strips and tiles: {seen:?}");
+    assert!(seen[1].iter().all(|files| *files > 80), "those of masks: {seen:?}");
 }
 
-/// The bytes of the pieces, and nothing else, drawn anew in an accepted file.
+/// The bytes of the pieces of both pictures, and nothing else, drawn anew in an
+/// accepted file.
 #[test]
 fn repainting_the_pieces_alone_changes_no_answer() {
     let mut random_bytes = Random::new(25);
     for sample in random(24, 1_000).into_iter().filter(|sample| !sample.damaged) {
         let mut other = sample.file.clone();
-        for piece in pieces(&sample.file).1 {
+        for piece in pictures(&sample.file).into_iter().flat_map(|(_, pieces)| pieces) {
             let fresh = random_bytes.bytes(piece.len());
             other[piece].copy_from_slice(&fresh);
         }
@@ -149,11 +154,22 @@ fn repainting_the_pieces_alone_changes_no_answer() {
     }
 }
 
-/// Whether an accepted file is in tiles, and the bytes of each strip or tile,
-/// read apart from the reader.
-fn pieces(file: &[u8]) -> (bool, Vec<std::ops::Range<usize>>) {
+/// A picture: whether it is in tiles, and the bytes of each strip or tile.
+type Picture = (bool, Vec<std::ops::Range<usize>>);
+
+/// The pictures of an accepted file, the image's and then a mask's, read apart
+/// from the reader.
+fn pictures(file: &[u8]) -> Vec<Picture> {
     let number = |at: usize, width: usize| held::number(file[0] == b'I', file, at, width) as usize;
-    let directory = number(4, 4);
+    let image = number(4, 4);
+    let mask = number(image + 2 + 12 * number(image, 2), 4);
+    let found = [image, mask].into_iter().filter(|directory| *directory != 0);
+    found.map(|directory| picture(file, directory)).collect()
+}
+
+/// The picture of the directory at this place.
+fn picture(file: &[u8], directory: usize) -> Picture {
+    let number = |at: usize, width: usize| held::number(file[0] == b'I', file, at, width) as usize;
     let numbers = |tag: usize| -> Vec<usize> {
         let entries = (0..number(directory, 2)).map(|at| directory + 2 + 12 * at);
         let entry = entries.into_iter().find(|&at| number(at, 2) == tag).expect("a needed tag");
@@ -161,7 +177,8 @@ fn pieces(file: &[u8]) -> (bool, Vec<std::ops::Range<usize>>) {
         let start = if width * count > 4 { number(entry + 8, 4) } else { entry + 8 };
         (0..count).map(|at| number(start + width * at, width)).collect()
     };
-    let tiled = tags(file).contains(&324);
+    let mut tags = (0..number(directory, 2)).map(|at| number(directory + 2 + 12 * at, 2));
+    let tiled = tags.any(|tag| tag == 324);
     let (offsets, counts) = if tiled { (324, 325) } else { (273, 279) };
     let (offsets, counts) = (numbers(offsets), numbers(counts));
     (tiled, offsets.iter().zip(&counts).map(|(&offset, &count)| offset..offset + count).collect())

@@ -6,12 +6,12 @@ mod common;
 use common::*;
 use outside::generator::keyplan::{Encoded, Held};
 use outside::generator::plan::Plan;
-use outside::generator::{plain_sample, random, targeted, Call};
+use outside::generator::{plain_sample, random, targeted, Call, Sample};
 use outside::reader::tables::{Rules, C_12, C_13};
 use outside::reader::{
-    citation, judge, judge_by, judgements, key_block, key_block_by, key_rows, metadata, read_block,
-    read_block_by, reading_list, reading_list_by, Block, Cited, Georeference, Judged, Order,
-    ReadBack, Row, Text,
+    citation, judge, judge_by, judgements, judgements_by, key_block, key_block_by, key_rows,
+    leads_on, metadata, read_block, read_block_by, reading_list, reading_list_by, Block, Cited,
+    Georeference, Judged, Order, ReadBack, Row, Text,
 };
 use std::collections::BTreeSet;
 
@@ -43,7 +43,7 @@ fn a_file_that_is_not_of_minor_revision_1_keeps_its_answers_its_list_and_its_blo
         numbers.insert(judged.verdict.number);
         compared += 1;
     }
-    assert_eq!(numbers, judgements().collect::<BTreeSet<u32>>());
+    assert_eq!(numbers, judgements_by(C_13).collect::<BTreeSet<u32>>());
     assert!(compared > 20_000, "{compared} files");
 }
 
@@ -92,7 +92,8 @@ fn holding(file: &[u8], other: &[u8]) -> usize {
 #[test]
 fn a_file_of_minor_revision_1_is_answered_as_the_same_file_of_0_was() {
     let mut held = 0;
-    for sample in random(103, 6_000).into_iter().filter(|sample| !sample.damaged) {
+    let alone = |sample: &Sample| !sample.damaged && !leads_on(&sample.file);
+    for sample in random(103, 8_000).into_iter().filter(alone) {
         let [zero, one] = [0, 1].map(|minor| revised(&sample.file, minor));
         let was = judge_by(&zero, C_12);
         assert_eq!((was.verdict, was.minor), (verdict(0, 0), 0));
@@ -279,7 +280,7 @@ fn a_refused_call_gives_nothing_of_minor_revision_1() {
     let mut numbers = BTreeSet::new();
     for case in targeted(105) {
         let (file, want) = (&case.file, case.want);
-        let later = want.number > 22 && want.number != 27;
+        let later = want.number > 22 && want.number != 27 && want.number != 28;
         if !later || minor(file) != Some(1) {
             continue;
         }

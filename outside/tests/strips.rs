@@ -1,13 +1,14 @@
 //! A file of strips that carries no tag of tiles is judged by request C-11 as
 //! document 01 alone judges it: by the table without those tags and without rule
-//! 27. `texts` does so for request C-12, `revision` for request C-13.
+//! 27. `texts` does so for request C-12, `revision` for request C-13, `mask` for
+//! request C-14.
 
 mod common;
 
 use common::tags;
 use outside::generator::{random, targeted, Call, Case};
 use outside::reader::tables::{Family, C_11, DOCUMENT_01};
-use outside::reader::{judge_by, judgements, reading_list_by};
+use outside::reader::{judge_by, judgements_by, reading_list_by};
 use std::collections::BTreeSet;
 
 /// The files of the targeted cases of the plain judgement, and of the mix.
@@ -35,7 +36,7 @@ fn a_file_without_tags_of_tiles_keeps_its_verdict_its_place_and_its_list() {
         numbers.insert(judged.verdict.number);
         compared += 1;
     }
-    assert_eq!(numbers, judgements().filter(|number| *number != 27).collect::<BTreeSet<u32>>());
+    assert_eq!(numbers, judgements_by(DOCUMENT_01).collect::<BTreeSet<u32>>());
     assert!(compared > 10_000, "{compared} files");
 }
 

@@ -1,8 +1,8 @@
-//! The two tables against the words of document 01 and of request C-11, set
-//! down here again.
+//! The tables against the words of document 01 and of requests C-11 and C-14,
+//! set down here again.
 
 use outside::reader::tables::{
-    kind_of, outside, Allowed, Count, Family, Kind, Need, Needed, KEYS, TAGS,
+    kind_of, of_mask, outside, Allowed, Count, Family, Kind, Need, Needed, TagRow, KEYS, TAGS,
 };
 
 /// The table of tags: numbers, needed, types, count, values.
@@ -25,6 +25,23 @@ const OF_TAGS: &str = "
 34736 | no | DOUBLE | 1 or more | any
 34737 | no | ASCII | 1 or more | any
 50909 | no | BYTE | 1 or more | any
+";
+
+/// The same of a mask whose image is 640 wide and 480 long.
+const OF_MASK: &str = "
+254 | yes | LONG | 1 | 4
+256 | yes | SHORT LONG | 1 | 640
+257 | yes | SHORT LONG | 1 | 480
+258 | yes | SHORT | 1 or more | 1
+259 | yes | SHORT | 1 | 1, 2, 32773
+262 | yes | SHORT | 1 | 4
+273 279 | in strips | SHORT LONG | 1 or more | any
+277 | yes | SHORT | 1 | 1
+278 | in strips | SHORT LONG | 1 | 1-4294967295
+284 | no | SHORT | 1 | 1
+322 323 | in tiles | SHORT LONG | 1 | positive multiples of 16
+324 | in tiles | LONG | 1 or more | any
+325 | in tiles | SHORT LONG | 1 or more | any
 ";
 
 const OF_ASCII: &str = "1026, 2049, 3073, 4097";
@@ -80,13 +97,19 @@ fn tried() -> impl Iterator<Item = u32> {
 }
 
 #[test]
-fn the_table_of_tags_is_the_documents() {
+fn the_tables_of_tags_are_the_documents() {
+    tells(OF_TAGS, &TAGS);
+    tells(OF_MASK, &of_mask(640, 480));
+}
+
+/// The words tell of these rows, and of all of them.
+fn tells(words: &str, rows: &[TagRow]) {
     let mut told = 0;
-    for line in OF_TAGS.lines().filter(|line| !line.is_empty()) {
+    for line in words.lines().filter(|line| !line.is_empty()) {
         let columns: Vec<&str> = line.split(" | ").collect();
         for tag in columns[0].split(' ') {
             let tag: u16 = tag.parse().unwrap();
-            let row = TAGS.iter().find(|row| row.tag == tag).expect("a row of the table");
+            let row = rows.iter().find(|row| row.tag == tag).expect("a row of the table");
             let kinds: Vec<u16> = columns[2].split(' ').map(type_number).collect();
             assert_eq!((row.need, row.kinds), (need(columns[1]), &kinds[..]), "{tag}");
             assert_eq!(row.count, count(columns[3]), "{tag}");
@@ -97,8 +120,8 @@ fn the_table_of_tags_is_the_documents() {
             told += 1;
         }
     }
-    assert_eq!(told, TAGS.len());
-    assert!(TAGS.windows(2).all(|pair| pair[0].tag < pair[1].tag));
+    assert_eq!(told, rows.len());
+    assert!(rows.windows(2).all(|pair| pair[0].tag < pair[1].tag));
 }
 
 /// The numbers of a list such as "2055, 2057-2059".

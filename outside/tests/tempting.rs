@@ -5,10 +5,10 @@ mod common;
 use common::*;
 use outside::generator::keyplan::{Held, Keys};
 use outside::generator::plan::{Plan, Tag};
-use outside::reader::tables::Family;
+use outside::reader::tables::{Family, C_13};
 use outside::reader::{
-    citation, judge, judge_clause, key_block, key_rows, metadata, read_block, reading_list,
-    Georeference, Order, ReadBack,
+    citation, judge, judge_by, judge_clause, key_block, key_rows, metadata, read_block,
+    reading_list, reading_list_by, Georeference, Order, ReadBack,
 };
 
 const ORDERS: [Order; 2] = [Order::Little, Order::Big];
@@ -176,15 +176,17 @@ fn a_part_of_a_family_is_rule_9_and_none_of_either_is_27() {
 }
 
 #[test]
-fn rule_27_stands_behind_8_and_has_its_list() {
+fn rule_27_has_the_list_of_8_and_no_mask() {
     for order in ORDERS {
         let plan = with(&tiled(plan(order, &keys())), Tag::longs(273, &[8, 8, 8]));
         let (both, mut next) = (plan.lay(), plan.lay());
-        next.put_long(next.directory + 2 + 12 * next.spots.len(), 8);
+        next.put_long(next.next(), 8);
         assert_eq!(judge(&both.bytes).verdict, verdict(27, 0));
-        assert_eq!(judge(&next.bytes).verdict, verdict(8, 0));
+        assert_eq!(judge(&next.bytes).verdict, verdict(27, 0), "a mask comes behind 22");
+        assert_eq!(judge_by(&next.bytes, C_13).verdict, verdict(8, 0));
         let list = reading_list(&both.bytes);
         assert_eq!(list, reading_list(&next.bytes));
+        assert_eq!(list, reading_list_by(&next.bytes, C_13));
         for tag in [273, 322, 324, 34735] {
             let spot = both.spot(tag);
             let value = spot.value as u64..(spot.value + spot.size) as u64;

@@ -8,7 +8,7 @@ use outside::generator::plan::{Laid, Plan, Tag};
 use outside::generator::{random, sample, targeted, Call};
 use outside::reader::tables::{C_11, C_12};
 use outside::reader::{
-    judge, judge_by, judgements, metadata, reading_list, reading_list_by, texts, Order, Text,
+    judge, judge_by, judgements_by, metadata, reading_list, reading_list_by, texts, Order, Text,
 };
 use std::collections::BTreeSet;
 
@@ -34,7 +34,7 @@ fn a_file_without_two_side_by_side_keeps_its_verdict_its_place_and_its_list() {
         numbers.insert(judged.verdict.number);
         compared += 1;
     }
-    assert_eq!(numbers, judgements().collect::<BTreeSet<u32>>());
+    assert_eq!(numbers, judgements_by(C_12).collect::<BTreeSet<u32>>());
     assert!(compared > 20_000, "{compared} files");
 }
 
@@ -50,7 +50,8 @@ fn a_file_with_two_side_by_side_was_refused_by_rule_6() {
         }
         numbers.insert(is.number);
     }
-    let later: BTreeSet<u32> = judgements().filter(|number| *number == 0 || *number > 5).collect();
+    let later = judgements_by(C_12).filter(|number| *number == 0 || *number > 5);
+    let later: BTreeSet<u32> = later.collect();
     assert!(later.is_subset(&numbers), "{numbers:?}");
     assert!(anew > 5_000, "{anew} files");
 }

@@ -1,9 +1,10 @@
 //! Writes the files that the program `vectors` judges, with what it must print:
 //! data DIR [SEED] fills DIR/data, DIR/args and DIR/stdout. There is file A with
-//! its marked changes and one more, a file of tiles and one of three metadata
-//! tags with changes of them, and for each clause of rules 1 to 22 and 27 the
-//! smallest targeted file beyond its boundary and within it, in both byte orders;
-//! files of other producers, which `field` has, are taken in as they are.
+//! its marked changes and one more, a file of tiles, one of three metadata tags
+//! and one with a mask with changes of them, and for each clause of rules 1 to 22,
+//! 27 and 28 the smallest targeted file beyond its boundary and within it, in both
+//! byte orders; files of other producers, which `field` has, are taken in as they
+//! are.
 
 use outside::generator::plan::{Laid, Plan, Tag};
 use outside::generator::{random, targeted, Call};
@@ -25,6 +26,7 @@ fn main() {
     files.extend(marked());
     files.extend(tiled());
     files.extend(mosaics());
+    files.extend(masked());
     files.extend(mixed(seed));
     files.extend(real(&Path::new(env!("CARGO_MANIFEST_DIR")).join("field")));
     write(folder, &files).expect("the files are written");
@@ -104,12 +106,12 @@ const TILED: [(&str, fn(&mut Plan)); 11] = [
 
 /// Changes of single bytes of that file.
 const TILED_BYTES: [(&str, fn(&mut Laid)); 3] = [
-    ("8-neither", |laid| {
+    ("27-neither--next-offset-8", |laid| {
         // no rule asks for 318 to 321
         for (tag, other) in [(322, 318), (323, 319), (324, 320), (325, 321)] {
             laid.put_short(laid.spot(tag).entry, other);
         }
-        laid.put_long(laid.directory + 2 + 12 * laid.spots.len(), 8);
+        laid.put_long(laid.next(), 8);
     }),
     ("13-past-n", |laid| laid.put_long(laid.spot(324).value + 20, laid.n() as u32 - 5)),
     ("14-directory", |laid| laid.put_long(laid.spot(324).value + 8, laid.directory as u32)),
@@ -183,6 +185,101 @@ fn mosaics() -> BTreeMap<String, Vec<u8>> {
             let mut laid = plan.lay();
             change(&mut laid);
             files.insert(format!("mosaic-{name}-{mark}"), laid.bytes);
+        }
+    }
+    files
+}
+
+/// The file of tiles with a mask in two strips.
+fn mask(order: Order) -> Plan {
+    let mut plan = Plan::mask_of(tiles(order));
+    plan.set(Tag::shorts(278, &[10]));
+    plan.set_pieces(Family::Strips, &[7, 5], (true, true));
+    plan
+}
+
+/// Puts the first strip of the mask on a byte.
+fn strip_on(laid: &mut Laid, byte: usize) {
+    laid.put_long(laid.spot(273).value, byte as u32);
+    laid.put_long(laid.spot(279).value, 1);
+}
+
+/// Changes of the mask's tags.
+const MASKED: [(&str, fn(&mut Plan)); 16] = [
+    ("as-it-is", |_| ()),
+    ("in-tiles", |plan| {
+        plan.remove(278);
+        [273, 279].iter().for_each(|&tag| plan.remove(tag));
+        [322, 323].iter().for_each(|&tag| plan.set(Tag::shorts(tag, &[32])));
+        plan.set_pieces(Family::Tiles, &[3, 3], (true, false));
+    }),
+    ("sizes-LONG", |plan| {
+        plan.set(Tag::longs(256, &[40]));
+        plan.set(Tag::longs(257, &[20]));
+    }),
+    ("50909-three-times", |plan| {
+        [&b"<first sheet/>"[..], b"two", b"3"]
+            .iter()
+            .for_each(|text| plan.add(Tag::bytes(50909, 2, text)));
+    }),
+    ("no-keys-in-34735", |plan| plan.set(Tag::bytes(34735, 7, b"no keys"))),
+    ("28-6-284-twice", |plan| (0..2).for_each(|_| plan.add(Tag::shorts(284, &[1])))),
+    ("28-7-34735-count-0", |plan| plan.set(Tag::raw(34735, 3, 0, [0; 4]))),
+    ("28-27-both-by-324", |plan| plan.set(Tag::longs(324, &[8, 8]))),
+    ("28-27-neither", |plan| Family::Strips.tags().for_each(|tag| plan.remove(tag))),
+    ("28-9-254-absent", |plan| plan.remove(254)),
+    ("28-10-254-SHORT", |plan| plan.set(Tag::shorts(254, &[4]))),
+    ("28-11-254-is-5", |plan| plan.set(Tag::longs(254, &[5]))),
+    ("28-11-256-is-39", |plan| plan.set(Tag::shorts(256, &[39]))),
+    ("28-11-257-is-21", |plan| plan.set(Tag::shorts(257, &[21]))),
+    ("28-12-258-twice-1", |plan| plan.set(Tag::shorts(258, &[1, 1]))),
+    ("28-12-273-three", |plan| plan.set_pieces(Family::Strips, &[7, 5, 3], (true, true))),
+];
+
+/// Changes of single bytes of that file.
+const MASKED_BYTES: [(&str, fn(&mut Laid)); 18] = [
+    ("no-mask", |laid| laid.put_long(laid.pointer(), 0)),
+    ("28-4-odd", |laid| laid.put_long(laid.pointer(), laid.directory as u32 + 1)),
+    ("28-4-below-8", |laid| laid.put_long(laid.pointer(), 6)),
+    ("28-4-past-n", |laid| laid.put_long(laid.pointer(), laid.n() as u32 / 2 * 2)),
+    ("28-5-no-entry", |laid| laid.put_short(laid.directory, 0)),
+    ("28-8-the-image", |laid| laid.put_long(laid.pointer(), laid.its_image().directory as u32)),
+    ("28-8-itself", |laid| laid.put_long(laid.next(), laid.directory as u32)),
+    ("28-13-past-n", |laid| laid.put_long(laid.spot(273).value + 4, laid.n() as u32 - 4)),
+    ("28-14-tile-on-the-directory", |laid| {
+        let (offsets, _) = laid.its_image().places();
+        laid.put_long(offsets.value, laid.next() as u32 + 3);
+    }),
+    ("28-14-tile-on-279", |laid| {
+        let (offsets, _) = laid.its_image().places();
+        laid.put_long(offsets.value + 20, laid.spot(279).value as u32);
+    }),
+    ("28-14-own-directory", |laid| strip_on(laid, laid.directory)),
+    ("28-14-own-273", |laid| strip_on(laid, laid.spot(273).value + 7)),
+    ("28-14-directory-of-the-image", |laid| strip_on(laid, laid.its_image().next() + 3)),
+    ("28-14-34735-of-the-image", |laid| strip_on(laid, laid.its_image().spot(34735).value)),
+    ("on-the-picture", |laid| strip_on(laid, laid.its_image().pieces[0].0 as usize)),
+    ("7-of-the-image", |laid| laid.put_long(laid.its_image().spot(256).entry + 4, 0)),
+    ("15-minor-revision-2", |laid| laid.put_short(laid.its_image().spot(34735).value + 4, 2)),
+    ("28-9-minor-revision-1", |laid| {
+        laid.put_short(laid.its_image().spot(34735).value + 4, 1);
+        laid.put_short(laid.spot(254).entry, 253);
+    }),
+];
+
+/// That file and its changes, in both byte orders.
+fn masked() -> BTreeMap<String, Vec<u8>> {
+    let mut files: BTreeMap<String, Vec<u8>> = BTreeMap::new();
+    for (order, mark) in [(Order::Little, "II"), (Order::Big, "MM")] {
+        for (name, change) in MASKED {
+            let mut plan = mask(order);
+            change(&mut plan);
+            files.insert(format!("masked-{name}-{mark}"), plan.lay().bytes);
+        }
+        for (name, change) in MASKED_BYTES {
+            let mut laid = mask(order).lay();
+            change(&mut laid);
+            files.insert(format!("masked-{name}-{mark}"), laid.bytes);
         }
     }
     files

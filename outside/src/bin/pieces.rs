@@ -1,8 +1,9 @@
-//! pieces COUNT BYTES [tiles] [texts] [big]: writes an accepted file of so many
-//! strips, or tiles, of so many bytes each to standard output; with `texts` one
-//! of strips between as many metadata tags as a directory has room for.
+//! pieces COUNT BYTES [tiles] [texts] [mask] [big]: writes an accepted file of so
+//! many strips, or tiles, of so many bytes each to standard output; with `texts`
+//! one of strips between as many metadata tags as a directory has room for, with
+//! `mask` one of strips around a mask of as many.
 
-use outside::generator::large::{many_pieces, many_texts, possible};
+use outside::generator::large::{many_masked, many_pieces, many_texts, possible};
 use outside::reader::tables::Family;
 use outside::reader::Order;
 use std::io::Write;
@@ -15,18 +16,19 @@ fn main() -> ExitCode {
     let family = if said("tiles") { Family::Tiles } else { Family::Strips };
     let order = if said("big") { Order::Big } else { Order::Little };
     let (Some(count), Some(bytes)) = (number(0), number(1)) else {
-        eprintln!("pieces COUNT BYTES [tiles] [texts] [big]");
+        eprintln!("pieces COUNT BYTES [tiles] [texts] [mask] [big]");
         return ExitCode::FAILURE;
     };
     if !possible(family, count) {
         eprintln!("pieces: no picture has {count} {}s", family.word());
         return ExitCode::FAILURE;
     }
-    let file = match (said("texts"), family) {
-        (false, _) => many_pieces(order, family, count, bytes),
-        (true, Family::Strips) => many_texts(order, count, bytes),
-        (true, Family::Tiles) => {
-            eprintln!("pieces: texts stand between strips alone");
+    let file = match (said("texts"), said("mask"), family) {
+        (false, false, _) => many_pieces(order, family, count, bytes),
+        (true, false, Family::Strips) => many_texts(order, count, bytes),
+        (false, true, Family::Strips) => many_masked(order, count, bytes, count, true),
+        _ => {
+            eprintln!("pieces: texts, or a mask, stand between strips alone");
             return ExitCode::FAILURE;
         }
     };

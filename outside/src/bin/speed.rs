@@ -10,8 +10,8 @@
 //! All but `write` and `count` need the static library linked. outside/speed
 //! runs it.
 
-use outside::generator::large::{many_pieces, many_texts};
-use outside::generator::plain_sample;
+use outside::generator::large::{many_masked, many_pieces, many_texts};
+use outside::generator::{masked_sample, plain_sample};
 use outside::reader::tables::{Family, BOTH};
 use outside::reader::{families, judge, Order};
 use std::path::Path;
@@ -53,9 +53,14 @@ const PIECE: usize = 3;
 /// against every tag, so that counting the instructions of a million takes long.
 const STRIPS: u32 = 100_000;
 
+/// How many strips the files with a mask have.
+const MASKED: u32 = 40_000;
+
 /// The mix with every second file damaged, drawn with at most one metadata
 /// tag and of minor revision 0, the same of each byte order alone, one file each
-/// of many strips and of many tiles, and files of many metadata tags.
+/// of many strips and of many tiles, and files of many metadata tags. Then files
+/// with a mask: a mix, and some of many strips with the mask behind these or among
+/// them, in one strip or in as many.
 fn write_all(folder: &Path) {
     let mix = || (0..).map(|number| plain_sample(SEED, number).file);
     let of_order = |mark: u8| mix().filter(move |file| file.first() == Some(&mark));
@@ -72,6 +77,12 @@ fn write_all(folder: &Path) {
     for strips in [1_000, STRIPS] {
         let file = many_texts(Order::Little, strips, PIECE as u32);
         write(folder, &format!("tags-{strips}"), [file].into_iter());
+    }
+    write(folder, "masked", (0..FILES as u64).map(|number| masked_sample(SEED, number).file));
+    for (name, masks, among) in [("behind", 1, false), ("among", 1, true), ("masks", MASKED, false)]
+    {
+        let file = many_masked(Order::Little, MASKED, PIECE as u32, masks, among);
+        write(folder, &format!("{name}-{MASKED}"), [file].into_iter());
     }
 }
 
@@ -140,7 +151,9 @@ mod measure {
 mod measure {
     use outside::compiled::{ground_into, verdict_of, Raw};
     use outside::fast;
-    use outside::reader::several_texts;
+    use outside::generator::large::many_pieces;
+    use outside::reader::tables::Family;
+    use outside::reader::{leads_on, several_texts, Order};
     use std::hint::black_box;
     use std::time::Instant;
 
@@ -204,10 +217,18 @@ mod measure {
     }
 
     /// Offsets and byte counts are LONGs, and right behind them stand the
-    /// pieces; of a file of many metadata tags they are its end.
+    /// pieces; of a file of many metadata tags they are its end, and of one with a
+    /// mask they stand where they do without.
     pub fn fetch(pieces: usize, files: &[Vec<u8>]) {
         let behind = if several_texts(&files[0]) { 0 } else { super::PIECE * pieces };
-        let words = files[0].len() - behind - 8 * pieces;
+        let length = match leads_on(&files[0]) {
+            true => {
+                let (strips, bytes) = (pieces as u32, super::PIECE as u32);
+                many_pieces(Order::Little, Family::Strips, strips, bytes).len()
+            }
+            false => files[0].len(),
+        };
+        let words = length - behind - 8 * pieces;
         let from = files[0].as_ptr() as usize + words;
         println!("{from:08x} {:08x}", from + 8 * pieces);
         assert_eq!(verdict_of(black_box(&files[0])), (0, 0));

@@ -1,13 +1,14 @@
 //! Writes a module of theorems about the paper's definitions: for each clause
 //! the smallest targeted cases on both sides of its boundary, with one metadata
-//! tag or none and with more, accepted in either minor revision, and some random
-//! files, each with every answer that the second reader gives. The checker
-//! computes the definitions on each file and compares.
+//! tag or none and with more, accepted in either minor revision, with a next
+//! offset or without, and some random files, each with every answer that the
+//! second reader gives. The checker computes the definitions on each file and
+//! compares.
 
 use outside::generator::{random, targeted, Call, Case};
 use outside::reader::{
-    citation, judge, key_block, key_rows, metadata, read_block, reading_list, several_texts, texts,
-    Block, Cited, Georeference, Judged, ReadBack, Row, Text, Verdict,
+    citation, judge, key_block, key_rows, leads_on, metadata, read_block, reading_list,
+    several_texts, texts, Block, Cited, Georeference, Judged, ReadBack, Row, Text, Verdict,
 };
 use std::collections::BTreeMap;
 use std::fmt::Write;
@@ -43,14 +44,15 @@ fn minor(case: &Case) -> u32 {
 }
 
 /// The smallest case of each clause and side, of those with more than one
-/// metadata tag, and of those of minor revision 1.
+/// metadata tag, of those with a next offset, and of those of minor revision 1.
 fn chosen(cases: Vec<Case>) -> Vec<Case> {
-    let mut best: BTreeMap<(&'static str, bool, bool, u32), Case> = BTreeMap::new();
+    let mut best: BTreeMap<(&'static str, bool, [bool; 2], u32), Case> = BTreeMap::new();
     for case in cases {
         if case.file.len() > LARGEST {
             continue;
         }
-        let kind = (case.clause, case.broken, several_texts(&case.file), minor(&case));
+        let sort = [several_texts(&case.file), leads_on(&case.file)];
+        let kind = (case.clause, case.broken, sort, minor(&case));
         match best.get(&kind) {
             Some(other) if other.file.len() <= case.file.len() => {}
             _ => {

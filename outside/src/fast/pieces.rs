@@ -14,6 +14,36 @@ struct Gap {
     bytes: u64,
 }
 
+impl Gap {
+    /// What two gaps around a byte have in common.
+    fn within(self, other: Gap) -> Gap {
+        let first = self.first.max(other.first);
+        let end = (self.first + self.bytes).min(other.first + other.bytes);
+        Gap { first, bytes: end - first }
+    }
+}
+
+/// Where a picture begins and ends: the first byte of its lowest piece, and the
+/// byte behind its highest.
+#[derive(Clone, Copy)]
+pub struct Span {
+    first: u64,
+    end: u64,
+}
+
+impl Span {
+    #[inline(always)]
+    fn with(&mut self, at: u64, bytes: u64) {
+        self.first = self.first.min(at);
+        self.end = self.end.max(at + bytes);
+    }
+
+    /// Whether a part of a list has a byte between the two.
+    pub fn meets(&self, &(first, end): &(u32, u32)) -> bool {
+        u64::from(first) < self.end && self.first < u64::from(end)
+    }
+}
+
 /// What the parts leave of a gap around a byte, or none if the byte is on one.
 #[inline(always)]
 fn narrowed(gap: Gap, parts: impl Iterator<Item = (u64, u64)>, at: u64) -> Option<Gap> {
@@ -45,16 +75,38 @@ fn gap_among<const BIG: bool>(later: &[[u8; 12]], gap: Gap, at: u64) -> Option<G
     narrowed(gap, later.iter().filter_map(later_value::<BIG>), at)
 }
 
+/// The gap around a byte that the parts of all these tags leave.
+#[inline(always)]
+fn gap_around<const BIG: bool, const N: usize>(
+    file: &[u8],
+    lists: [&Tags; N],
+    at: u64,
+) -> Option<Gap> {
+    let mut all: Option<Gap> = None;
+    for tags in lists {
+        let mut gap = gap_at(tags.parts(), at, file.len() as u64)?;
+        if tags.several() {
+            gap = gap_among::<BIG>(tags.later(file), gap, at)?;
+        }
+        all = Some(all.map_or(gap, |other| other.within(gap)));
+    }
+    all
+}
+
 /// The first piece that does not lie in the gap: its index, and its start and
 /// end from the gap's first byte on. Those before it keep both rules.
 #[inline(always)]
-fn outside<A, B>(
+fn outside<A, B, const SPAN: bool>(
     gap: Gap,
     (offsets, counts): (&[A], &[B]),
     number: impl Fn(&A, &B) -> (u64, u64),
+    span: &mut Span,
 ) -> Option<(usize, u64, u64)> {
     offsets.iter().zip(counts).enumerate().find_map(|(piece, (a, b))| {
         let (at, bytes) = number(a, b);
+        if SPAN {
+            span.with(at, bytes);
+        }
         // a piece that is empty, or starts before the gap, does not start below
         // its end
         let start = at.wrapping_sub(gap.first);
@@ -65,16 +117,18 @@ fn outside<A, B>(
 
 /// Rules 13 and 14, where `number` reads offset and byte count of a piece.
 #[inline(always)]
-fn pass<const BIG: bool, A, B>(
+fn pass<const BIG: bool, const SPAN: bool, const N: usize, A, B>(
     file: &[u8],
-    tags: &Tags,
+    lists: [&Tags; N],
     (offsets, counts): (&[A], &[B]),
     number: impl Fn(&A, &B) -> (u64, u64),
-) -> Result<(), Refusal> {
+) -> Result<Span, Refusal> {
     let n = file.len() as u64;
     let counts = &counts[..offsets.len()];
     let (mut gap, mut shared, mut next) = (Gap { first: 0, bytes: 0 }, None, 0);
-    while let Some((ahead, start, end)) = outside(gap, (&offsets[next..], &counts[next..]), &number)
+    let mut span = Span { first: u64::MAX, end: 0 };
+    while let Some((ahead, start, end)) =
+        outside::<A, B, SPAN>(gap, (&offsets[next..], &counts[next..]), &number, &mut span)
     {
         // else offset and byte count are kept for this, at one instruction for
         // each piece
@@ -86,11 +140,7 @@ fn pass<const BIG: bool, A, B>(
             return refuse(13, piece as u32);
         }
         if shared.is_none() {
-            let mut found = gap_at(tags.parts(), at, n);
-            if tags.several() {
-                found = found.and_then(|gap| gap_among::<BIG>(tags.later(file), gap, at));
-            }
-            match found {
+            match gap_around::<BIG, N>(file, lists, at) {
                 Some(found) if end - found.first <= found.bytes => gap = found,
                 _ => shared = Some(piece as u32),
             }
@@ -99,16 +149,19 @@ fn pass<const BIG: bool, A, B>(
     }
     match shared {
         Some(piece) => refuse(14, piece),
-        None => Ok(()),
+        None => Ok(span),
     }
 }
 
-/// Both runs have as many elements, by rule 12. The offsets of tiles are LONG.
+/// Rules 13 and 14 of the pieces that `tags` tell of, by these lists, and their
+/// span if it is wanted. Both runs have as many elements, by rule 12. The offsets
+/// of tiles are LONG.
 #[inline(always)]
-pub fn rules13and14<const BIG: bool, const TILED: bool>(
+fn held<const BIG: bool, const TILED: bool, const SPAN: bool, const N: usize>(
     file: &[u8],
     tags: &Tags,
-) -> Result<(), Refusal> {
+    lists: [&Tags; N],
+) -> Result<Span, Refusal> {
     let shorts = |slot: usize| tags.value(file, slot, 2).as_chunks::<2>().0;
     let longs = |slot: usize| tags.value(file, slot, 4).as_chunks::<4>().0;
     let two = |bytes: &[u8; 2]| u64::from(short::<BIG>(*bytes));
@@ -119,16 +172,49 @@ pub fn rules13and14<const BIG: bool, const TILED: bool>(
     };
     match (!TILED && tags.entry(a).kind == SHORT, tags.entry(b).kind == SHORT) {
         (true, true) => {
-            pass::<BIG, _, _>(file, tags, (shorts(a), shorts(b)), |a, b| (two(a), two(b)))
+            let pieces = (shorts(a), shorts(b));
+            pass::<BIG, SPAN, N, _, _>(file, lists, pieces, |a, b| (two(a), two(b)))
         }
         (true, false) => {
-            pass::<BIG, _, _>(file, tags, (shorts(a), longs(b)), |a, b| (two(a), four(b)))
+            let pieces = (shorts(a), longs(b));
+            pass::<BIG, SPAN, N, _, _>(file, lists, pieces, |a, b| (two(a), four(b)))
         }
         (false, true) => {
-            pass::<BIG, _, _>(file, tags, (longs(a), shorts(b)), |a, b| (four(a), two(b)))
+            let pieces = (longs(a), shorts(b));
+            pass::<BIG, SPAN, N, _, _>(file, lists, pieces, |a, b| (four(a), two(b)))
         }
         (false, false) => {
-            pass::<BIG, _, _>(file, tags, (longs(a), longs(b)), |a, b| (four(a), four(b)))
+            let pieces = (longs(a), longs(b));
+            pass::<BIG, SPAN, N, _, _>(file, lists, pieces, |a, b| (four(a), four(b)))
         }
     }
+}
+
+/// Of an image, by its own list.
+#[inline(always)]
+pub fn rules13and14<const BIG: bool, const TILED: bool, const SPAN: bool>(
+    file: &[u8],
+    tags: &Tags,
+) -> Result<Span, Refusal> {
+    held::<BIG, TILED, SPAN, 1>(file, tags, [tags])
+}
+
+/// Of a mask, by the lists of both.
+#[inline(always)]
+pub fn rules13and14_of_mask<const BIG: bool, const TILED: bool>(
+    file: &[u8],
+    tags: &Tags,
+    image: &Tags,
+) -> Result<Span, Refusal> {
+    held::<BIG, TILED, false, 2>(file, tags, [tags, image])
+}
+
+/// Of the image that keeps them, by the list of the mask.
+#[inline(always)]
+pub fn rule14_of_image<const BIG: bool, const TILED: bool>(
+    file: &[u8],
+    tags: &Tags,
+    mask: &Tags,
+) -> Result<Span, Refusal> {
+    held::<BIG, TILED, false, 1>(file, tags, [mask])
 }

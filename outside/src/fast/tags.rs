@@ -34,6 +34,8 @@ pub mod slot {
     pub const CHARACTERS: usize = 19;
     pub const METADATA: usize = 20;
     pub const ALL: usize = 21;
+    /// The tag 254 of a mask, which has no scale.
+    pub const SUBFILE: usize = SCALE;
 }
 
 use slot::*;
@@ -67,22 +69,25 @@ const fn set(slots: &[usize]) -> u32 {
     set
 }
 
-/// The tags of the two families, and those that are needed in both.
+/// The tags of the two families, and those that are needed in both, in an image
+/// and in a mask.
 const STRIPS: u32 = set(&[STRIP_OFFSETS, ROWS_PER_STRIP, STRIP_BYTE_COUNTS]);
 const TILES: u32 = set(&[TILE_WIDTH, TILE_LENGTH, TILE_OFFSETS, TILE_BYTE_COUNTS]);
-const NEEDED: u32 = set(&[WIDTH, LENGTH, BITS, COMPRESSION, PHOTOMETRIC, SAMPLES, KEY_DIRECTORY]);
+const PICTURE: u32 = set(&[WIDTH, LENGTH, BITS, COMPRESSION, PHOTOMETRIC, SAMPLES]);
+const IN_IMAGE: u32 = PICTURE | set(&[KEY_DIRECTORY]);
+const IN_MASK: u32 = PICTURE | set(&[SUBFILE]);
 
 /// Rules 27 and 9 where neither family is there whole and alone, or another
 /// needed tag is absent.
 #[cold]
 #[inline(never)]
-fn rule27or9<T>(present: u32) -> Result<T, Refusal> {
+fn rule27or9<T>(present: u32, needed: u32) -> Result<T, Refusal> {
     let family = match (present & STRIPS != 0, present & TILES != 0) {
         (true, false) => STRIPS,
         (false, true) => TILES,
         _ => return refuse(27, 0),
     };
-    let missing = (NEEDED | family) & !present;
+    let missing = (needed | family) & !present;
     refuse(9, TAGS[missing.trailing_zeros() as usize])
 }
 
@@ -203,43 +208,52 @@ impl Tags {
         Tags { entries, present: 0, parts, used: 1, later: (0, 0), width: 0, length: 0 }
     }
 
-    /// Rules 6 to 9 and 27; whether the pieces are tiles.
+    /// Rules 6 and 7.
     #[inline(always)]
-    pub fn rules6to9<const BIG: bool>(
+    pub fn rules6and7<const BIG: bool, const MASK: bool>(
         &mut self,
         n: u64,
         entries: &[[u8; 12]],
-        next: &[u8; 4],
-    ) -> Result<bool, Refusal> {
-        if let Err(refusal) = self.rules6and7::<BIG>(n, entries) {
-            self.rest::<BIG>(n, entries, refusal)?;
-        }
-        if *next != [0; 4] {
-            return refuse(8, 0);
-        }
-        const IN_STRIPS: u32 = NEEDED | STRIPS;
-        const IN_TILES: u32 = NEEDED | TILES;
-        match self.present & (IN_STRIPS | IN_TILES) {
-            IN_STRIPS => Ok(false),
-            IN_TILES => Ok(true),
-            _ => rule27or9(self.present),
+    ) -> Result<(), Refusal> {
+        match self.ascending::<BIG, MASK>(n, entries) {
+            Err(refusal) => self.rest::<BIG, MASK>(n, entries, refusal),
+            Ok(()) => Ok(()),
         }
     }
 
-    /// Rules 10 to 12.
+    /// Rules 27 and 9; whether the pieces are tiles.
     #[inline(always)]
-    pub fn rules10to12<const BIG: bool, const TILED: bool>(
+    pub fn rules27and9<const MASK: bool>(&self) -> Result<bool, Refusal> {
+        let needed = if MASK { IN_MASK } else { IN_IMAGE };
+        match self.present & (needed | STRIPS | TILES) {
+            found if found == needed | STRIPS => Ok(false),
+            found if found == needed | TILES => Ok(true),
+            _ => rule27or9(self.present, needed),
+        }
+    }
+
+    /// Rules 10 to 12. The width and the length of a mask are said before.
+    #[inline(always)]
+    pub fn rules10to12<const BIG: bool, const TILED: bool, const MASK: bool>(
         &mut self,
         file: &[u8],
     ) -> Result<(), Refusal> {
-        self.rule10::<TILED>()?;
-        self.rule11::<BIG, TILED>(file)?;
+        self.rule10::<TILED, MASK>()?;
+        if MASK {
+            self.rule11_of_mask::<BIG>(file)?;
+        }
+        self.rule11::<BIG, TILED, MASK>(file)?;
         self.rule12::<BIG, TILED>(file)
     }
 
-    /// Rules 6 and 7; what the entries of the table say is kept.
+    /// Rules 6 and 7 where no tag stands twice; what the entries of the table say
+    /// is kept.
     #[inline(always)]
-    fn rules6and7<const BIG: bool>(&mut self, n: u64, entries: &[[u8; 12]]) -> Result<(), Refusal> {
+    fn ascending<const BIG: bool, const MASK: bool>(
+        &mut self,
+        n: u64,
+        entries: &[[u8; 12]],
+    ) -> Result<(), Refusal> {
         let (mut last, mut far, mut used, mut present) = (-1, SCALE, 1, 0);
         let mut here = self.parts[0].0 + 10;
         let mut rest = entries.iter();
@@ -252,6 +266,13 @@ impl Tags {
             last = tag as i32;
             let slot = match NEAR.get(tag.wrapping_sub(FIRST) as usize) {
                 Some(&near) => usize::from(near),
+                None if MASK => {
+                    if tag == 254 {
+                        SUBFILE
+                    } else {
+                        ALL
+                    }
+                }
                 None => {
                     // tags ascend, and so does the place in the table
                     while TAGS[far] < tag {
@@ -290,10 +311,10 @@ impl Tags {
     /// Rules 6 and 7 once more where the pass met a metadata tag that is not
     /// greater than the tag before, from that entry on: further metadata tags,
     /// then tags outside the table. One of another type than BYTE makes the
-    /// first one such, for rule 10.
+    /// first one such, for rule 10. In a mask all of them are outside the table.
     #[cold]
     #[inline(never)]
-    fn rest<const BIG: bool>(
+    fn rest<const BIG: bool, const MASK: bool>(
         &mut self,
         n: u64,
         entries: &[[u8; 12]],
@@ -315,7 +336,7 @@ impl Tags {
             if value_end(kind, count, field, n).is_none() {
                 return rule7::<_, BIG>(&entries[at + 1..], tag);
             }
-            if tag == last {
+            if tag == last && !MASK {
                 self.later = (start as u32, at as u32 + 1);
                 if kind != BYTE {
                     self.entries[METADATA].kind = kind;
@@ -328,8 +349,9 @@ impl Tags {
 
     /// Rule 10, lowest tag first. By rule 7 no known type has count 0.
     #[inline(always)]
-    fn rule10<const TILED: bool>(&self) -> Result<(), Refusal> {
+    fn rule10<const TILED: bool, const MASK: bool>(&self) -> Result<(), Refusal> {
         let fault = match self.fault_of_picture::<TILED>() {
+            0 if MASK => 254 * u32::from(!self.entries[SUBFILE].is(LONG, 1)),
             0 => self.fault_of_rest(),
             tag => tag,
         };
@@ -445,9 +467,29 @@ impl Tags {
         self.value(file, BITS, 2).as_chunks::<2>().0
     }
 
-    /// Rule 11, lowest tag first.
+    /// Rule 11 where a mask has another value; the place is not the lowest.
     #[inline(always)]
-    fn rule11<const BIG: bool, const TILED: bool>(&mut self, file: &[u8]) -> Result<(), Refusal> {
+    fn rule11_of_mask<const BIG: bool>(&self, file: &[u8]) -> Result<(), Refusal> {
+        let is = |slot: usize, number: u32| self.number::<BIG>(slot) == number;
+        let kept = is(SUBFILE, 4)
+            && is(WIDTH, self.width)
+            && is(LENGTH, self.length)
+            && self.bits(file).iter().all(|two| short::<BIG>(*two) == 1)
+            && is(PHOTOMETRIC, 4)
+            && is(SAMPLES, 1);
+        if kept {
+            Ok(())
+        } else {
+            refuse(11, 0)
+        }
+    }
+
+    /// Rule 11, lowest tag first; a mask has 4 for 262 besides.
+    #[inline(always)]
+    fn rule11<const BIG: bool, const TILED: bool, const MASK: bool>(
+        &mut self,
+        file: &[u8],
+    ) -> Result<(), Refusal> {
         let number = |slot: usize| self.number::<BIG>(slot);
         (self.width, self.length) = (number(WIDTH), number(LENGTH));
         let number = |slot: usize| self.number::<BIG>(slot);
@@ -461,7 +503,7 @@ impl Tags {
             258
         } else if !matches!(number(COMPRESSION), 1 | 2 | 32773) {
             259
-        } else if number(PHOTOMETRIC) > 3 {
+        } else if number(PHOTOMETRIC) > 3 + u32::from(MASK) {
             262
         } else if number(SAMPLES).wrapping_sub(1) >= 8 {
             277

@@ -20,7 +20,7 @@ pub fn damage(mut laid: Laid, random: &mut Random) -> Vec<u8> {
             11 => family_field(&mut laid, random),
             _ => resize(&mut laid, random),
         }
-        if laid.n() < laid.directory + 6 + 12 * laid.spots.len() {
+        if laid.n() < laid.next().max(laid.pointer()) + 4 {
             break;
         }
     }
@@ -36,6 +36,38 @@ pub fn mosaic(mut laid: Laid, random: &mut Random) -> Vec<u8> {
         }
     }
     damage(laid, random)
+}
+
+/// The bytes of a file with a mask after damage, mostly of the mask.
+pub fn masked(mut laid: Laid, random: &mut Random) -> Vec<u8> {
+    match random.below(10) {
+        0 | 1 => damage(laid.turned(), random),
+        2 | 3 => {
+            list_field(&mut laid, random);
+            laid.bytes
+        }
+        4 => {
+            laid.put_long(laid.pointer(), near(random, laid.n()));
+            laid.bytes
+        }
+        _ => damage(laid, random),
+    }
+}
+
+/// Brings a piece of the image or of the mask to a byte of the other's part of the
+/// list, or just beside it.
+fn list_field(laid: &mut Laid, random: &mut Random) {
+    let (mask, image) = (laid.sheet.clone(), laid.its_image());
+    let (mover, host) = random.pick(&[(&mask, &image), (&image, &mask), (&mask, &mask)]);
+    let mut parts = vec![(host.directory, host.next() + 4)];
+    let far = host.spots.iter().filter(|spot| spot.size > 4);
+    parts.extend(far.map(|spot| (spot.value, spot.value + spot.size)));
+    let (start, end) = random.pick(&parts);
+    let byte = random.pick(&[start - 1, start, end - 1, end]) as u32 % 65_536;
+    let (offsets, _) = mover.places();
+    let pieces = mover.pieces.len();
+    let piece = random.below(pieces as u64) as usize;
+    laid.put_number(offsets.value, offsets.size == 4 * pieces, piece, byte);
 }
 
 /// The bytes of the file after damage of the header of its keys: one number or
@@ -125,7 +157,8 @@ fn entry_field(laid: &mut Laid, random: &mut Random) {
 fn short_value(laid: &mut Laid, random: &mut Random) {
     let tested = [256, 257, 258, 259, 262, 277, 278, 284, 322, 323];
     let mut spots = whole_spots(laid);
-    spots.retain(|spot| tested.contains(&spot.tag));
+    let in_mask = |tag: u16| laid.image.is_some() && tag == 254;
+    spots.retain(|spot| tested.contains(&spot.tag) || in_mask(spot.tag));
     if spots.is_empty() {
         return;
     }
@@ -137,7 +170,7 @@ fn short_value(laid: &mut Laid, random: &mut Random) {
 
 fn double_value(laid: &mut Laid, random: &mut Random) {
     let mut spots = whole_spots(laid);
-    spots.retain(|spot| [33550, 33922, 34264].contains(&spot.tag));
+    spots.retain(|spot| [33550, 33922, 34264].contains(&spot.tag) && spot.size >= 8);
     if spots.is_empty() {
         return;
     }
@@ -150,7 +183,8 @@ fn double_value(laid: &mut Laid, random: &mut Random) {
 
 /// Overwrites a number of the key directory, often one of an entry.
 fn key_field(laid: &mut Laid, random: &mut Random) {
-    let Some(spot) = whole_spots(laid).into_iter().find(|spot| spot.tag == 34735) else { return };
+    let whole = |spot: &Spot| spot.tag == 34735 && spot.size >= 8;
+    let Some(spot) = whole_spots(laid).into_iter().find(whole) else { return };
     let place = random.below(spot.size as u64 / 2) as usize;
     let choices =
         [0, 1, 2, 3, 1024, 1025, 2048, 3072, 4326, 32600, 32662, 34735, 34736, 34737, 65_535];
@@ -208,9 +242,9 @@ fn head_field(laid: &mut Laid, random: &mut Random) {
     let number = near(random, laid.n());
     match random.below(5) {
         0 => laid.bytes[random.below(4) as usize] = number as u8,
-        1 => laid.put_long(4, number),
+        1 => laid.put_long(laid.pointer(), number),
         2 => laid.put_short(laid.directory, number as u16),
-        3 => laid.put_long(laid.directory + 2 + 12 * laid.spots.len(), number),
+        3 => laid.put_long(laid.next(), number),
         _ => laid.put_short(laid.directory, laid.spots.len() as u16 + 1 - 2 * (number as u16 % 2)),
     }
 }

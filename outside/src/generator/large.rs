@@ -1,4 +1,4 @@
-//! Accepted files of very many pieces, for the cost of a piece.
+//! Accepted files of very many pieces, for the cost of a piece, some with a mask.
 
 use super::plan::{Laid, Plan, Tag};
 use crate::reader::tables::{Family, METADATA, MOST_ENTRIES};
@@ -26,12 +26,69 @@ pub fn possible(family: Family, pieces: u32) -> bool {
 /// A file of so many pieces (`possible`), of `bytes` bytes each; offsets and
 /// byte counts are LONG and stand right before the pieces. It keeps every rule.
 pub fn many_pieces(order: Order, family: Family, pieces: u32, bytes: u32) -> Vec<u8> {
+    with_hole(order, family, (pieces, bytes), (pieces, 0)).bytes
+}
+
+/// The same with a hole of so many bytes before one of the pieces, or behind them.
+fn with_hole(
+    order: Order,
+    family: Family,
+    (pieces, bytes): (u32, u32),
+    (before, hole): (u32, u32),
+) -> Laid {
     let laid = frame(order, family, pieces).lay();
     let start = laid.n() + if pieces == 1 { 0 } else { 8 * pieces as usize };
     let (offsets, byte_counts) = family.places();
-    let mut laid = longs(laid, offsets, pieces, |piece| start as u32 + bytes * piece);
+    let shift = |piece: u32| if piece < before { 0 } else { hole };
+    let offset = |piece: u32| start as u32 + bytes * piece + shift(piece);
+    let mut laid = longs(laid, offsets, pieces, offset);
     laid = longs(laid, byte_counts, pieces, |_| bytes);
-    laid.bytes.resize(start + bytes as usize * pieces as usize, 0xC7);
+    laid.bytes.resize(start + bytes as usize * pieces as usize + hole as usize, 0xC7);
+    laid
+}
+
+/// A file of so many strips, of `bytes` bytes each, and a mask in `masks` strips,
+/// one or as many. The mask's directory, its values and its strips stand together:
+/// behind the picture, or, if `among`, in the middle of it. It keeps every rule.
+pub fn many_masked(order: Order, strips: u32, bytes: u32, masks: u32, among: bool) -> Vec<u8> {
+    let entries = 10;
+    let far = if masks == 1 { 0 } else { 8 * masks };
+    let own = 2 + 12 * entries + 4;
+    let before = if among { strips / 2 } else { strips };
+    // one byte more, to start even
+    let hole = (before, 1 + own + far + masks);
+    let mut laid = with_hole(order, Family::Strips, (strips, bytes), hole);
+    let picture = laid.n() as u32 - hole.1 - bytes * strips;
+    let at = (picture + bytes * before).next_multiple_of(2);
+    let (values, first) = (at + own, at + own + far);
+    laid.put_long(laid.next(), at);
+    laid.put_short(at as usize, entries as u16);
+    let [offsets, counts] = if masks == 1 { [first, 1] } else { [values, values + 4 * masks] };
+    let numbers = [
+        (254, 4, 1, 4),
+        (256, 4, 1, 4),
+        (257, 4, 1, strips),
+        (258, 3, 1, 1),
+        (259, 3, 1, 1),
+        (262, 3, 1, 4),
+        (273, 4, masks, offsets),
+        (277, 3, 1, 1),
+        (278, 4, 1, strips / masks),
+        (279, 4, masks, counts),
+    ];
+    for (entry, (tag, kind, count, number)) in (0..).zip(numbers) {
+        let entry = at as usize + 2 + 12 * entry;
+        laid.put_short(entry, tag);
+        laid.put_short(entry + 2, kind);
+        laid.put_long(entry + 4, count);
+        laid.put_long(entry + 8, 0);
+        laid.put_number(entry + 8, kind == 4, 0, number);
+    }
+    laid.put_long((at + own - 4) as usize, 0);
+    for mask in 0..if masks == 1 { 0 } else { masks } {
+        laid.put_long((values + 4 * mask) as usize, first + mask);
+        laid.put_long((values + 4 * masks + 4 * mask) as usize, 1);
+    }
     laid.bytes
 }
 

@@ -1,11 +1,12 @@
 //! The plan of a file: its byte order, its entries with their values, the
 //! pieces of its picture and the order of its parts; laid out to bytes on
-//! demand.
+//! demand. The plan of a mask has that of the image with it.
 
 use super::keyplan::Encoded;
 use super::prng::Random;
 use crate::reader::tables::Family;
 use crate::reader::Order;
+use std::ops::Deref;
 
 /// What an entry's value is, before the byte order is chosen.
 #[derive(Clone, Debug)]
@@ -76,6 +77,22 @@ pub enum Part {
     Value(usize),
     /// A strip or a tile.
     Piece(usize),
+    /// The same of the image, in the plan of a mask.
+    ImageDirectory,
+    ImageValue(usize),
+    ImagePiece(usize),
+}
+
+impl Part {
+    /// What the part of an image's own plan is in the plan of its mask.
+    fn of_image(self) -> Self {
+        match self {
+            Part::Directory => Part::ImageDirectory,
+            Part::Value(at) => Part::ImageValue(at),
+            Part::Piece(at) => Part::ImagePiece(at),
+            other => other,
+        }
+    }
 }
 
 /// The description of a file.
@@ -96,6 +113,8 @@ pub struct Plan {
     pub fill: u64,
     /// Whether free bytes are random; else they are 0.
     pub dirty: bool,
+    /// In the plan of a mask, the image: its tags and its pieces count.
+    pub image: Option<Box<Plan>>,
 }
 
 impl Plan {
@@ -111,7 +130,31 @@ impl Plan {
             gap: (0, 0),
             fill: 0,
             dirty: false,
+            image: None,
         }
+    }
+
+    /// The mask of an image, without its pieces: of the same width and length, with
+    /// the parts of both in the image's order.
+    pub fn mask_of(image: Plan) -> Self {
+        let mut mask = Plan { tags: Vec::new(), pieces: Vec::new(), ..image.clone() };
+        mask.set(Tag::longs(254, &[4]));
+        for tag in [256, 257] {
+            mask.set(image.tags.iter().find(|known| known.tag == tag).expect("a size").clone());
+        }
+        for (tag, number) in [(258, 1), (259, 1), (262, 4), (277, 1)] {
+            mask.set(Tag::shorts(tag, &[number]));
+        }
+        mask.image = Some(Box::new(image));
+        mask
+    }
+
+    /// Sets a tag, and in the plan of a mask that of the image too.
+    pub fn set_both(&mut self, tag: Tag) {
+        if let Some(image) = &mut self.image {
+            image.set(tag.clone());
+        }
+        self.set(tag);
     }
 
     pub fn find(&mut self, tag: u16) -> &mut Tag {
@@ -182,12 +225,21 @@ impl Plan {
         }
     }
 
+    /// The directory, the values outside their entries and the pieces.
+    fn own_parts(&self) -> Vec<Part> {
+        let mut parts = vec![Part::Directory];
+        let long = (0..self.tags.len()).filter(|&at| self.size(&self.tags[at]) > 4);
+        parts.extend(long.map(Part::Value));
+        parts.extend((0..self.pieces.len()).map(Part::Piece));
+        parts
+    }
+
     /// All parts in the order they take in the file.
     fn parts(&self) -> Vec<Part> {
-        let mut between = vec![Part::Directory];
-        let long = (0..self.tags.len()).filter(|&at| self.size(&self.tags[at]) > 4);
-        between.extend(long.map(Part::Value));
-        between.extend((0..self.pieces.len()).map(Part::Piece));
+        let mut between = self.own_parts();
+        if let Some(image) = &self.image {
+            between.extend(image.own_parts().into_iter().map(Part::of_image));
+        }
         if let Some(seed) = self.shuffle {
             Random::new(seed).shuffle(&mut between);
         }
@@ -200,7 +252,15 @@ impl Plan {
             Part::Directory => 2 + 12 * self.tags.len() + 4,
             Part::Value(at) => self.size(&self.tags[at]),
             Part::Piece(piece) => self.pieces[piece] as usize,
+            Part::ImageDirectory => self.its_image().part_size(Part::Directory),
+            Part::ImageValue(at) => self.its_image().part_size(Part::Value(at)),
+            Part::ImagePiece(piece) => self.its_image().part_size(Part::Piece(piece)),
         }
+    }
+
+    /// The image, where this is the plan of a mask.
+    pub fn its_image(&self) -> &Plan {
+        self.image.as_deref().expect("the plan of a mask")
     }
 
     /// Lays the file out to bytes.
@@ -210,7 +270,7 @@ impl Plan {
         let mut end = 8;
         for part in self.parts() {
             end += random.within(self.gap.0, self.gap.1) as usize;
-            if !matches!(part, Part::Piece(_)) {
+            if !matches!(part, Part::Piece(_) | Part::ImagePiece(_)) {
                 end += end % 2;
             }
             starts.push((part, end));
@@ -219,7 +279,8 @@ impl Plan {
         end += random.within(self.gap.0, self.gap.1) as usize;
         let bytes = if self.dirty { random.bytes(end) } else { vec![0; end] };
         let mut laid = Laid::new(self, bytes, &starts);
-        for &(at, count) in &laid.pieces.clone() {
+        let of_image = laid.image.iter().flat_map(|image| &image.pieces);
+        for (at, count) in laid.pieces.iter().chain(of_image).copied().collect::<Vec<_>>() {
             let picture = random.bytes(count as usize);
             laid.bytes[at as usize..(at + count) as usize].copy_from_slice(&picture);
         }
@@ -237,21 +298,38 @@ pub struct Spot {
     pub size: usize,
 }
 
-/// A file laid out, with the places of its parts, so that a case can change
-/// single fields in the file's own byte order.
+/// Where a directory with its values and its pieces stands.
 #[derive(Clone, Debug)]
-pub struct Laid {
-    pub order: Order,
-    pub bytes: Vec<u8>,
+pub struct Sheet {
     pub directory: usize,
     pub spots: Vec<Spot>,
     /// Offset and byte count of each piece.
     pub pieces: Vec<(u32, u32)>,
 }
 
-impl Laid {
-    fn new(plan: &Plan, bytes: Vec<u8>, starts: &[(Part, usize)]) -> Self {
-        let start = |wanted: Part| starts.iter().find(|(part, _)| *part == wanted).map(|s| s.1);
+/// A file laid out, with the places of its parts, so that a case can change
+/// single fields in the file's own byte order. What is asked of it as of a sheet
+/// is that of the plan: the image's, or the mask's where there is one.
+#[derive(Clone, Debug)]
+pub struct Laid {
+    pub order: Order,
+    pub bytes: Vec<u8>,
+    pub sheet: Sheet,
+    /// The image's, where the sheet is a mask's.
+    pub image: Option<Sheet>,
+}
+
+impl Deref for Laid {
+    type Target = Sheet;
+
+    fn deref(&self) -> &Sheet {
+        &self.sheet
+    }
+}
+
+impl Sheet {
+    /// Of a plan whose parts start where `start` says.
+    fn new(plan: &Plan, start: impl Fn(Part) -> Option<usize>) -> Self {
         let directory = start(Part::Directory).expect("a directory");
         let spot = |(at, tag): (usize, &Tag)| {
             let entry = directory + 2 + 12 * at;
@@ -259,59 +337,16 @@ impl Laid {
             Spot { tag: tag.tag, entry, value, size: plan.size(tag) }
         };
         let piece = |at: usize| start(Part::Piece(at)).expect("a piece") as u32;
-        Laid {
-            order: plan.order,
-            bytes,
+        Sheet {
             directory,
             spots: plan.tags.iter().enumerate().map(spot).collect(),
             pieces: (0..plan.pieces.len()).map(|at| (piece(at), plan.pieces[at])).collect(),
         }
     }
 
-    /// Writes the head, the directory and all values.
-    fn write(&mut self, plan: &Plan) {
-        let mark = if self.order == Order::Little { 0x49 } else { 0x4D };
-        self.bytes[..2].copy_from_slice(&[mark, mark]);
-        self.put_short(2, 42);
-        self.put_long(4, self.directory as u32);
-        self.put_short(self.directory, plan.tags.len() as u16);
-        for (spot, tag) in self.spots.clone().iter().zip(&plan.tags) {
-            self.put_short(spot.entry, tag.tag);
-            self.put_short(spot.entry + 2, tag.kind);
-            self.put_long(spot.entry + 4, tag.count);
-            if spot.size > 4 {
-                self.put_long(spot.entry + 8, spot.value as u32);
-            }
-            self.write_value(spot, tag);
-        }
-        self.put_long(self.directory + 2 + 12 * plan.tags.len(), 0);
-    }
-
-    fn write_value(&mut self, spot: &Spot, tag: &Tag) {
-        let at = spot.value;
-        match &tag.value {
-            Value::Bytes(bytes) => self.bytes[at..at + bytes.len()].copy_from_slice(bytes),
-            Value::Field(field) => self.bytes[at..at + 4].copy_from_slice(field),
-            Value::Shorts(numbers) => {
-                numbers.iter().enumerate().for_each(|(i, &n)| self.put_short(at + 2 * i, n));
-            }
-            Value::Longs(numbers) => {
-                numbers.iter().enumerate().for_each(|(i, &n)| self.put_long(at + 4 * i, n));
-            }
-            Value::Doubles(doubles) => {
-                doubles.iter().enumerate().for_each(|(i, &d)| self.put_double(at + 8 * i, d));
-            }
-            Value::Offsets { wide } => {
-                for i in 0..tag.count as usize {
-                    let offset = self.pieces[i.min(self.pieces.len() - 1)].0;
-                    self.put_number(at, *wide, i, offset);
-                }
-            }
-        }
-    }
-
-    pub fn n(&self) -> usize {
-        self.bytes.len()
+    /// Where the next offset stands.
+    pub fn next(&self) -> usize {
+        self.directory + 2 + 12 * self.spots.len()
     }
 
     /// Whether the pieces are tiles.
@@ -334,6 +369,85 @@ impl Laid {
     /// The spots of a tag, in the directory's order.
     pub fn all(&self, tag: u16) -> Vec<Spot> {
         self.spots.iter().filter(|spot| spot.tag == tag).cloned().collect()
+    }
+}
+
+impl Laid {
+    fn new(plan: &Plan, bytes: Vec<u8>, starts: &[(Part, usize)]) -> Self {
+        let start = |wanted: Part| starts.iter().find(|(part, _)| *part == wanted).map(|s| s.1);
+        let sheet = Sheet::new(plan, start);
+        let its = |image: &Plan| Sheet::new(image, |part| start(part.of_image()));
+        Laid { order: plan.order, bytes, sheet, image: plan.image.as_deref().map(its) }
+    }
+
+    /// Writes the head, and each directory with all its values.
+    fn write(&mut self, plan: &Plan) {
+        let mark = if self.order == Order::Little { 0x49 } else { 0x4D };
+        self.bytes[..2].copy_from_slice(&[mark, mark]);
+        self.put_short(2, 42);
+        if let (Some(plan), Some(image)) = (&plan.image, self.image.clone()) {
+            self.put_long(4, image.directory as u32);
+            self.write_sheet(plan, &image);
+        }
+        self.put_long(self.pointer(), self.directory as u32);
+        self.write_sheet(plan, &self.sheet.clone());
+    }
+
+    fn write_sheet(&mut self, plan: &Plan, sheet: &Sheet) {
+        self.put_short(sheet.directory, plan.tags.len() as u16);
+        for (spot, tag) in sheet.spots.iter().zip(&plan.tags) {
+            self.put_short(spot.entry, tag.tag);
+            self.put_short(spot.entry + 2, tag.kind);
+            self.put_long(spot.entry + 4, tag.count);
+            if spot.size > 4 {
+                self.put_long(spot.entry + 8, spot.value as u32);
+            }
+            self.write_value(sheet, spot, tag);
+        }
+        self.put_long(sheet.next(), 0);
+    }
+
+    fn write_value(&mut self, sheet: &Sheet, spot: &Spot, tag: &Tag) {
+        let at = spot.value;
+        match &tag.value {
+            Value::Bytes(bytes) => self.bytes[at..at + bytes.len()].copy_from_slice(bytes),
+            Value::Field(field) => self.bytes[at..at + 4].copy_from_slice(field),
+            Value::Shorts(numbers) => {
+                numbers.iter().enumerate().for_each(|(i, &n)| self.put_short(at + 2 * i, n));
+            }
+            Value::Longs(numbers) => {
+                numbers.iter().enumerate().for_each(|(i, &n)| self.put_long(at + 4 * i, n));
+            }
+            Value::Doubles(doubles) => {
+                doubles.iter().enumerate().for_each(|(i, &d)| self.put_double(at + 8 * i, d));
+            }
+            Value::Offsets { wide } => {
+                for i in 0..tag.count as usize {
+                    let offset = sheet.pieces[i.min(sheet.pieces.len() - 1)].0;
+                    self.put_number(at, *wide, i, offset);
+                }
+            }
+        }
+    }
+
+    pub fn n(&self) -> usize {
+        self.bytes.len()
+    }
+
+    /// Where the offset of the directory stands: in the head, or behind the image's.
+    pub fn pointer(&self) -> usize {
+        self.image.as_ref().map_or(4, Sheet::next)
+    }
+
+    /// The same file, with a mask or not, to be asked of as one of its image.
+    pub fn turned(self) -> Self {
+        let sheet = self.image.unwrap_or(self.sheet);
+        Laid { sheet, image: None, ..self }
+    }
+
+    /// The image's sheet, where this is a file with a mask.
+    pub fn its_image(&self) -> Sheet {
+        self.image.clone().expect("a mask's image")
     }
 
     pub fn put_short(&mut self, at: usize, number: u16) {

@@ -1,6 +1,7 @@
 //! The targeted cases: for every clause of every rule a file just beyond its
 //! boundary and one just within, each with the verdict it must give by
-//! construction. `pairs` breaks two rules at once: the first must be named.
+//! construction. `pairs` breaks two rules at once: the first must be named. What
+//! an image and a mask have in common is tried on both.
 
 mod bases;
 mod blocks;
@@ -10,6 +11,7 @@ mod families;
 mod ground;
 mod head;
 mod keys;
+mod masks;
 mod mosaics;
 mod pairs;
 mod pieces;
@@ -70,6 +72,8 @@ impl Case {
 #[derive(Default)]
 pub struct Cases {
     list: Vec<Case>,
+    /// Whether clauses are those of a mask.
+    mask: bool,
 }
 
 /// The number of the rule that a clause belongs to.
@@ -86,19 +90,36 @@ impl Cases {
         self.list.push(Case { clause: name, broken, call, file, want });
     }
 
+    /// What a clause is called, of an image or of a mask.
+    fn name(&self, clause: &str) -> String {
+        format!("{}{clause}", if self.mask { "28 " } else { "" })
+    }
+
+    /// What a file is refused with that breaks this rule at this place, by its image
+    /// or by its mask.
+    fn refusal(&self, number: u32, place: u32) -> (u32, u32) {
+        if self.mask {
+            (28, number)
+        } else {
+            (number, place)
+        }
+    }
+
     /// A file that breaks the clause, at this place.
     fn broken(&mut self, clause: &str, file: Vec<u8>, place: u32) {
-        self.add(clause, true, Call::Judge, file, (rule_of(clause), place));
+        let want = self.refusal(rule_of(clause), place);
+        self.add(&self.name(clause), true, Call::Judge, file, want);
     }
 
     /// A file that just keeps the clause and every other one.
     fn kept(&mut self, clause: &str, file: Vec<u8>) {
-        self.add(clause, false, Call::Judge, file, (0, 0));
+        self.add(&self.name(clause), false, Call::Judge, file, (0, 0));
     }
 
     /// A file that just keeps the clause and must then break a later rule.
     fn kept_until(&mut self, clause: &str, file: Vec<u8>, number: u32, place: u32) {
-        self.add(clause, false, Call::Judge, file, (number, place));
+        let want = self.refusal(number, place);
+        self.add(&self.name(clause), false, Call::Judge, file, want);
     }
 }
 
@@ -110,16 +131,27 @@ const SORTS: [(Order, Family); 4] = [
     (Order::Big, Family::Tiles),
 ];
 
+/// The family of the image before the masks of each sort.
+const BEHIND: [Family; 4] = [Family::Tiles, Family::Strips, Family::Strips, Family::Tiles];
+
+/// Rules 4 to 14 and 27, of an image or of a mask.
+fn directories(bases: &mut Bases, cases: &mut Cases) {
+    head::directories(bases, cases);
+    directory::cases(bases, cases);
+    families::cases(bases, cases);
+    tags::cases(bases, cases);
+    pieces::cases(bases, cases);
+    mosaics::repeated(bases, cases);
+}
+
 /// All targeted cases; the seed draws free bytes, layouts and pictures.
 pub fn targeted(seed: u64) -> Vec<Case> {
     let mut cases = Cases::default();
     for (number, (order, family)) in (0..).zip(SORTS) {
-        let mut bases = Bases { order, family, random: Random::new(seed).branch(number) };
+        let random = Random::new(seed).branch(number);
+        let mut bases = Bases { order, family, behind: None, random };
         head::cases(&mut bases, &mut cases);
-        directory::cases(&mut bases, &mut cases);
-        families::cases(&mut bases, &mut cases);
-        tags::cases(&mut bases, &mut cases);
-        pieces::cases(&mut bases, &mut cases);
+        directories(&mut bases, &mut cases);
         keys::cases(&mut bases, &mut cases);
         ground::cases(&mut bases, &mut cases);
         calls::cases(&mut bases, &mut cases);
@@ -128,5 +160,13 @@ pub fn targeted(seed: u64) -> Vec<Case> {
         revisions::cases(&mut bases, &mut cases);
     }
     blocks::cases(&mut cases);
+    cases.mask = true;
+    for (number, ((order, family), behind)) in (4..).zip(SORTS.into_iter().zip(BEHIND)) {
+        let random = Random::new(seed).branch(number);
+        let mut bases = Bases { order, family, behind: Some(behind), random };
+        directories(&mut bases, &mut cases);
+        masks::cases(&mut bases, &mut cases);
+        pairs::cases_of_mask(&mut bases, &mut cases);
+    }
     cases.list
 }

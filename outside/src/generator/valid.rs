@@ -2,7 +2,7 @@
 //! stand.
 
 use super::keyplan::{Held, Keys};
-use super::plan::{Laid, Part, Plan, Tag};
+use super::plan::{Laid, Part, Plan, Sheet, Spot, Tag, Value};
 use super::prng::Random;
 use crate::reader::tables::{Allowed, Family, Kind, KEYS};
 use crate::reader::Order;
@@ -34,6 +34,33 @@ pub fn mosaic(random: &mut Random, minor: u16) -> Laid {
     }
     if random.chance(25) {
         share_texts(&mut laid);
+    }
+    laid
+}
+
+/// The same with a mask, and some with more than one metadata tag. What is asked of
+/// it as of a sheet is the mask's.
+pub fn masked(random: &mut Random, minor: u16) -> Laid {
+    let mut image = plan(random, minor);
+    if random.chance(20) {
+        texts(&mut image, random);
+    }
+    let mut plan = mask(image, random);
+    if random.chance(50) {
+        plan.shuffle = Some(random.draw());
+    }
+    if random.chance(40) {
+        place_mask(&mut plan, random);
+    }
+    let mut laid = plan.lay();
+    if random.chance(25) {
+        let sheet = laid.sheet.clone();
+        laid = laid.turned();
+        share_values(&mut laid, random);
+        laid = Laid { image: Some(laid.sheet), sheet, ..laid };
+    }
+    if random.chance(40) {
+        share_with_image(&mut laid, random);
     }
     laid
 }
@@ -142,6 +169,113 @@ fn tiles(plan: &mut Plan, random: &mut Random) -> u32 {
     plan.set(number(322, of_width, random));
     plan.set(number(323, of_length, random));
     across * down
+}
+
+/// The plan of a mask of this image.
+fn mask(image: Plan, random: &mut Random) -> Plan {
+    let (width, length) = (one(&image, 256), one(&image, 257));
+    let mut plan = Plan::mask_of(image);
+    plan.set(number(256, width, random));
+    plan.set(number(257, length, random));
+    plan.set(Tag::shorts(259, &[random.pick(&[1, 2, 32773])]));
+    if random.chance(50) {
+        plan.set(Tag::shorts(284, &[1]));
+    }
+    let family = random.pick(&[Family::Strips, Family::Tiles]);
+    let count = match family {
+        Family::Strips => {
+            let rows = length.div_ceil(random.pick(&[1, 1, 2, 3, 5]));
+            plan.set(number(278, random.pick(&[rows, rows, length, u32::MAX]), random));
+            length.div_ceil(one(&plan, 278))
+        }
+        Family::Tiles => {
+            for (tag, whole) in [(322, width), (323, length)] {
+                let part = whole.div_ceil(random.pick(&[1, 1, 2, 3])).next_multiple_of(16);
+                plan.set(number(tag, random.pick(&[part, part, u32::MAX - 15]), random));
+            }
+            width.div_ceil(one(&plan, 322)) * length.div_ceil(one(&plan, 323))
+        }
+    };
+    let counts: Vec<u32> = (0..count).map(|_| random.within(1, 20) as u32).collect();
+    let narrow_offsets = family == Family::Strips && random.chance(50);
+    plan.set_pieces(family, &counts, (!narrow_offsets, random.chance(50)));
+    tags_of_images(&mut plan, random);
+    unknown_tags(&mut plan, random);
+    // which is outside an image's table
+    plan.set(Tag::longs(254, &[4]));
+    plan
+}
+
+/// Tags that an image has in its table, of any type: in a mask they are outside.
+fn tags_of_images(plan: &mut Plan, random: &mut Random) {
+    for tag in [33550, 33922, 34264, 34735, 34736, 34737] {
+        if random.chance(10) {
+            let count = random.pick(&[1, 4, 5, 24]);
+            plan.set(Tag::bytes(tag, random.pick(&[1, 2, 7]), &random.bytes(count)));
+        }
+    }
+    for _ in 0..random.pick(&[0, 0, 0, 1, 2, 3]) {
+        let count = random.pick(&[1, 4, 5, 24]);
+        plan.add(Tag::bytes(50909, random.pick(&[1, 2, 7]), &random.bytes(count)));
+    }
+}
+
+/// Puts the mask's directory before all, behind all, or between pieces.
+fn place_mask(plan: &mut Plan, random: &mut Random) {
+    let pieces = plan.its_image().pieces.len();
+    match random.below(4) {
+        0 => plan.first = vec![Part::Directory],
+        1 => plan.last = vec![Part::Directory],
+        2 => plan.last = vec![Part::Directory, Part::ImagePiece(pieces - 1)],
+        _ => plan.first = vec![Part::ImagePiece(pieces - 1), Part::Directory],
+    }
+}
+
+/// Lets the two pictures share bytes, or the two directories values, or a picture
+/// lie over values outside the mask's table.
+fn share_with_image(laid: &mut Laid, random: &mut Random) {
+    let image = laid.its_image();
+    let text = image.all(50909).into_iter().find(|text| text.size > 4);
+    match (random.below(4), text) {
+        // a text of the image over the mask's directory or a value of it
+        (0, Some(text)) if text.size <= laid.next() + 4 - laid.directory => {
+            laid.put_long(text.entry + 8, laid.directory as u32);
+        }
+        (1, Some(text)) if text.size <= laid.places().0.size => {
+            laid.put_long(text.entry + 8, laid.places().0.value as u32);
+        }
+        (2, _) => {
+            let spots = laid.spots.clone();
+            under_piece(laid, spots.iter().filter(|spot| spot.tag > 325), image.pieces[0].0);
+        }
+        _ => share_pictures(laid, &image),
+    }
+}
+
+/// Puts the first piece of the mask on the image's first, as far as it reaches;
+/// where both pictures have pieces of one family and number, all of them, by the
+/// same entries.
+fn share_pictures(laid: &mut Laid, image: &Sheet) {
+    let (own, its) = (laid.places(), image.places());
+    if laid.tiled() == image.tiled() && laid.pieces.len() == image.pieces.len() {
+        for (own, its) in [(own.0, its.0), (own.1, its.1)] {
+            laid.bytes.copy_within(its.entry..its.entry + 12, own.entry);
+        }
+        return;
+    }
+    let pieces = laid.pieces.len();
+    let count = laid.pieces[0].1.min(image.pieces[0].1);
+    laid.put_number(own.0.value, own.0.size == 4 * pieces, 0, image.pieces[0].0);
+    laid.put_number(own.1.value, own.1.size == 4 * pieces, 0, count);
+}
+
+/// The one number of a planned tag.
+fn one(plan: &Plan, tag: u16) -> u32 {
+    match &plan.tags.iter().find(|known| known.tag == tag).expect("a planned tag").value {
+        Value::Shorts(numbers) => u32::from(numbers[0]),
+        Value::Longs(numbers) => numbers[0],
+        other => panic!("numbers of {other:?}"),
+    }
 }
 
 /// A finite double of moderate size, both zeros among them.
@@ -327,13 +461,18 @@ fn share_values(laid: &mut Laid, random: &mut Random) {
         }
     }
     let piece = laid.pieces[laid.pieces.len() - 1];
-    for spot in spots.iter().filter(|s| UNKNOWN_TAGS.contains(&s.tag) && s.size > 4) {
-        if piece.0.is_multiple_of(2) && piece.0 as usize + spot.size <= laid.n() {
-            laid.put_long(spot.entry + 8, piece.0);
-        }
-    }
+    under_piece(laid, spots.iter().filter(|spot| UNKNOWN_TAGS.contains(&spot.tag)), piece.0);
     if random.chance(50) {
         overlap_pieces(laid);
+    }
+}
+
+/// Lets values start where a piece does, if they may and end in the file.
+fn under_piece<'s>(laid: &mut Laid, spots: impl Iterator<Item = &'s Spot>, piece: u32) {
+    for spot in spots.filter(|spot| spot.size > 4) {
+        if piece.is_multiple_of(2) && piece as usize + spot.size <= laid.n() {
+            laid.put_long(spot.entry + 8, piece);
+        }
     }
 }
 

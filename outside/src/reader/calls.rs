@@ -1,4 +1,5 @@
-//! The calls on a file: each gives rules 1 to 22 and 27 first, then its own.
+//! The calls on a file: each gives rules 1 to 22, 27 and 28 first, then its
+//! own.
 
 use super::block;
 use super::clauses::registered;
@@ -69,7 +70,7 @@ pub struct Row {
 impl Accepted<'_> {
     /// The first byte in the file of the value of a present tag.
     fn start(&self, tag: u16) -> u64 {
-        let entry = self.directory.find(tag).expect("rule 17 is kept");
+        let entry = self.image.directory.find(tag).expect("rule 17 is kept");
         entry.value().expect("rule 10 is kept").start
     }
 
@@ -96,7 +97,7 @@ impl Accepted<'_> {
     }
 }
 
-/// Rules 1 to 22 and 27, then 23: the rows of a file for `lent` rows of room.
+/// Rules 1 to 22, 27 and 28, then 23: the rows of a file for `lent` rows of room.
 fn rows_for(file: &[u8], lent: usize) -> Result<Vec<Row>, Refusal> {
     let rows = examine(file, IN_FORCE)?.rows();
     if lent < rows.len() {
@@ -128,7 +129,7 @@ pub struct Cited {
     pub length: usize,
 }
 
-/// Rules 1 to 22 and 27, then 26: the row of the ASCII key asked for.
+/// Rules 1 to 22, 27 and 28, then 26: the row of the ASCII key asked for.
 fn cited_row(file: &[u8], key: u32) -> Result<Row, Refusal> {
     let rows = examine(file, IN_FORCE)?.rows();
     let found = rows.iter().find(|row| row.key == key);
@@ -168,7 +169,7 @@ pub struct Text {
 impl Accepted<'_> {
     /// The values of all 50909, in the directory's order.
     fn texts(&self) -> Vec<Range<u64>> {
-        let entries = self.directory.all(METADATA);
+        let entries = self.image.directory.all(METADATA);
         entries.map(|entry| entry.value().expect("rule 10 is kept")).collect()
     }
 }
@@ -178,7 +179,7 @@ pub fn texts(file: &[u8]) -> usize {
     examine(file, IN_FORCE).map_or(0, |accepted| accepted.texts().len())
 }
 
-/// Rules 1 to 22 and 27, then 29: where the text of that number stands. None is
+/// Rules 1 to 22, 27 and 28, then 29: where the text of that number stands. None is
 /// the outside text, which is number 0 where there is no 50909 at all.
 fn text_of(file: &[u8], number: u32) -> Result<Option<Range<u64>>, Refusal> {
     let texts = examine(file, IN_FORCE)?.texts();
@@ -220,7 +221,7 @@ pub struct Block {
     pub lengths: [usize; 3],
 }
 
-/// Rules 1 to 22 and 27, then 24, then 25: the three runs of the key block.
+/// Rules 1 to 22, 27 and 28, then 24, then 25: the three runs of the key block.
 fn block_for(file: &[u8], room: usize, rules: Rules) -> Result<[Vec<u8>; 3], Refusal> {
     let accepted = examine(file, rules)?;
     let runs = block::write(&accepted.runs, accepted.minor, &accepted.keys)?;

@@ -1,7 +1,12 @@
-//! The head and the directory of the file: rules 1 to 8 and 27.
+//! The head and the directories of the file, the image's and the mask's: rules 1
+//! to 8 and 27.
 
 use super::number::{index, long, short, size_of_type, Order};
-use super::tables::{Family, Need, Rules, TagRow, IN_FORCE, LONGEST, METADATA, MOST_ENTRIES, TAGS};
+use super::tables::{
+    of_mask, Family, Need, Rules, TagRow, IN_FORCE, LENGTH, LONGEST, METADATA, MOST_ENTRIES, TAGS,
+    WIDTH,
+};
+use super::tags::one;
 use super::verdict::{refuse, Refusal};
 use std::ops::Range;
 
@@ -30,7 +35,7 @@ impl Entry {
     }
 }
 
-/// The directory of a file that keeps rules 1 to 5.
+/// A directory that keeps rules 1 to 5.
 #[derive(Clone, Debug)]
 pub struct Directory<'a> {
     pub file: &'a [u8],
@@ -39,16 +44,47 @@ pub struct Directory<'a> {
     pub entries: Vec<Entry>,
     pub next: u32,
     pub rules: Rules,
+    /// The table of its tags, with the rows of the known families only.
+    pub table: Vec<TagRow>,
+    /// Whether no other may follow it.
+    last: bool,
 }
 
 impl<'a> Directory<'a> {
-    /// Rules 1 to 5.
+    /// Rules 1 to 5: the image's.
     pub fn open(file: &'a [u8], rules: Rules) -> Result<Self, Refusal> {
         let (order, at) = head(file)?;
+        Directory::at(file, (order, at), rules, TAGS.to_vec(), !rules.masks)
+    }
+
+    /// Where the mask's is said to be, if the image's, which this is, leads to one.
+    pub fn leads_to(&self) -> Option<u64> {
+        (!self.last && self.next != 0).then_some(u64::from(self.next))
+    }
+
+    /// Rules 4 and 5 of the mask's, for an image that keeps rules 1 to 22.
+    pub fn mask(&self, at: u64) -> Result<Self, Refusal> {
+        let table = of_mask(one(self, WIDTH), one(self, LENGTH));
+        Directory::at(self.file, (self.order, at), self.rules, table, true)
+    }
+
+    /// Rules 4 and 5 on a directory that is said to be at `at`.
+    fn at(
+        file: &'a [u8],
+        (order, at): (Order, u64),
+        rules: Rules,
+        mut table: Vec<TagRow>,
+        last: bool,
+    ) -> Result<Self, Refusal> {
+        rule4(file, at)?;
         let count = rule5(file, order, at)?;
         let entries = (0..count).map(|number| entry(file, order, at + 2 + 12 * number)).collect();
         let next = long(order, file, at + 2 + 12 * count);
-        Ok(Directory { file, order, at, entries, next, rules })
+        table.retain(|row| match row.need {
+            Need::In(family) => rules.families.contains(&family),
+            _ => true,
+        });
+        Ok(Directory { file, order, at, entries, next, rules, table, last })
     }
 
     pub fn n(&self) -> u64 {
@@ -80,14 +116,6 @@ impl<'a> Directory<'a> {
         }
     }
 
-    /// The table of tags, with the rows of the known families only.
-    pub fn table(&self) -> impl Iterator<Item = &'static TagRow> + '_ {
-        TAGS.iter().filter(|row| match row.need {
-            Need::In(family) => self.rules.families.contains(&family),
-            _ => true,
-        })
-    }
-
     /// The value bytes of a present tag of a type from 1 to 12.
     pub fn bytes(&self, entry: &Entry) -> &'a [u8] {
         let value = entry.value().expect("rule 10 is kept");
@@ -97,7 +125,7 @@ impl<'a> Directory<'a> {
     /// The value bytes of every entry whose tag is in the table, of types 1 to
     /// 12.
     pub fn listed_values(&self) -> Vec<(&Entry, Range<u64>)> {
-        let in_table = |tag: u16| self.table().any(|row| row.tag == tag);
+        let in_table = |tag: u16| self.table.iter().any(|row| row.tag == tag);
         let entries = self.entries.iter().filter(|entry| in_table(entry.tag));
         entries.filter_map(|entry| Some((entry, entry.value()?))).collect()
     }
@@ -135,9 +163,9 @@ impl<'a> Directory<'a> {
         Ok(())
     }
 
-    /// Rule 8: no further directory.
+    /// Rule 8: no further directory, where none may follow.
     pub fn rule8(&self) -> Result<(), Refusal> {
-        if self.next != 0 {
+        if self.last && self.next != 0 {
             return refuse(8, 0, "next offset");
         }
         Ok(())
@@ -172,7 +200,12 @@ pub fn several_texts(file: &[u8]) -> bool {
     Directory::open(file, IN_FORCE).is_ok_and(|found| found.all(METADATA).count() > 1)
 }
 
-/// Rules 1 to 4: the byte order and the directory's offset.
+/// Whether the directory of a file, as rules 1 to 5 leave it, has a next offset.
+pub fn leads_on(file: &[u8]) -> bool {
+    Directory::open(file, IN_FORCE).is_ok_and(|found| found.next != 0)
+}
+
+/// Rules 1 to 3: the byte order and the directory's offset.
 pub fn head(file: &[u8]) -> Result<(Order, u64), Refusal> {
     let n = file.len() as u64;
     if n < 8 {
@@ -189,17 +222,21 @@ pub fn head(file: &[u8]) -> Result<(Order, u64), Refusal> {
     if short(order, file, 2) != 42 {
         return refuse(3, 0, "not 42");
     }
-    let at = u64::from(long(order, file, 4));
+    Ok((order, u64::from(long(order, file, 4))))
+}
+
+/// Rule 4: the directory's offset.
+fn rule4(file: &[u8], at: u64) -> Result<(), Refusal> {
     if at % 2 != 0 {
         return refuse(4, 0, "odd");
     }
     if at < 8 {
         return refuse(4, 0, "below 8");
     }
-    if at + 2 > n {
+    if at + 2 > file.len() as u64 {
         return refuse(4, 0, "past n");
     }
-    Ok((order, at))
+    Ok(())
 }
 
 /// Rule 5: the number of entries.

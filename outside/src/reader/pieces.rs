@@ -39,19 +39,22 @@ pub fn rule13(directory: &Directory, pieces: &Pieces) -> Result<(), Refusal> {
     Ok(())
 }
 
-/// A part of the reading list.
-enum Part<'d> {
-    Head,
-    Directory,
-    ValueOf(&'d Entry),
+/// A part of the reading list, by its name.
+pub type Part = (String, Range<u64>);
+
+/// The first part of every list; rule 1 is kept.
+pub fn head() -> Part {
+    ("head".to_string(), 0..8)
 }
 
-/// The full reading list; rule 7 is kept.
-fn full_list<'d>(directory: &'d Directory) -> Vec<(Part<'d>, Range<u64>)> {
-    let mut list = vec![(Part::Head, 0..8), (Part::Directory, directory.range())];
+/// What a directory adds to the full list: itself, and the values of its table;
+/// rule 7 is kept. `whose` is said behind each name.
+pub fn parts(directory: &Directory, whose: &str) -> Vec<Part> {
+    let mut parts = vec![(format!("directory{whose}"), directory.range())];
     let values = directory.listed_values().into_iter();
-    list.extend(values.map(|(entry, value)| (Part::ValueOf(entry), value)));
-    list
+    let name = |entry: &Entry| format!("value of {}{whose}", directory.named(entry));
+    parts.extend(values.map(|(entry, value)| (name(entry), value)));
+    parts
 }
 
 /// Whether two ranges, neither empty, share a byte.
@@ -59,17 +62,12 @@ pub fn share(one: &Range<u64>, other: &Range<u64>) -> bool {
     one.start < other.end && other.start < one.end
 }
 
-/// Rule 14: no piece shares a byte with the full reading list.
-pub fn rule14(directory: &Directory, pieces: &Pieces) -> Result<(), Refusal> {
-    let list = full_list(directory);
+/// Rule 14: no piece shares a byte with the list. `whose` is said behind the
+/// word for a piece.
+pub fn rule14(pieces: &Pieces, whose: &str, list: &[Part]) -> Result<(), Refusal> {
     for (place, piece) in (0..).zip(&pieces.list) {
-        if let Some((part, _)) = list.iter().find(|(_, range)| share(piece, range)) {
-            let name = match part {
-                Part::Head => "head".to_string(),
-                Part::Directory => "directory".to_string(),
-                Part::ValueOf(entry) => format!("value of {}", directory.named(entry)),
-            };
-            return refuse(14, place, &format!("{} on {name}", pieces.word));
+        if let Some((name, _)) = list.iter().find(|(_, range)| share(piece, range)) {
+            return refuse(14, place, &format!("{}{whose} on {name}", pieces.word));
         }
     }
     Ok(())

@@ -1,6 +1,7 @@
-//! The two tables: one for tags, document 01's with the four tags of tiles,
-//! and one for keys, each in ascending order. A later request adds its rows
-//! here. `Rules` has what a request changed beside them.
+//! The tables: one for tags, document 01's with the four tags of tiles, that of
+//! a mask, which is drawn from it, and one for keys, each in ascending order. A
+//! later request adds its rows here. `Rules` has what a request changed beside
+//! them.
 
 /// The most entries a directory may have.
 pub const MOST_ENTRIES: u64 = 1_024;
@@ -15,6 +16,7 @@ pub const SHORT: u16 = 3;
 pub const LONG: u16 = 4;
 pub const DOUBLE: u16 = 12;
 
+pub const SUBFILE: u16 = 254;
 pub const WIDTH: u16 = 256;
 pub const LENGTH: u16 = 257;
 pub const BITS: u16 = 258;
@@ -62,6 +64,8 @@ pub enum Allowed {
     In(&'static [(u32, u32)]),
     /// The positive multiples of a number.
     MultiplesOf(u32),
+    /// This number alone.
+    Just(u32),
 }
 
 impl Allowed {
@@ -79,6 +83,7 @@ pub fn outside(allowed: Allowed, number: u32) -> Option<String> {
     match allowed {
         Allowed::Any => None,
         Allowed::In(ranges) => side(ranges, number).map(str::to_string),
+        Allowed::Just(only) => side(&[(only, only)], number).map(str::to_string),
         Allowed::MultiplesOf(_) if number == 0 => Some("not positive".to_string()),
         Allowed::MultiplesOf(step) if !number.is_multiple_of(step) => {
             Some(format!("not a multiple of {step}"))
@@ -120,19 +125,24 @@ pub struct Rules {
     pub repeated: &'static [u16],
     /// The minor revisions that rule 15 lets a key directory have.
     pub minors: &'static [u16],
+    /// Whether the image's next offset may lead to a mask.
+    pub masks: bool,
 }
 
-/// Every picture is in strips, no tag stands twice, and every key directory is
-/// of minor revision 0.
-pub const DOCUMENT_01: Rules = Rules { families: &[Family::Strips], repeated: &[], minors: &[0] };
+/// Every picture is in strips, no tag stands twice, every key directory is of
+/// minor revision 0, and no directory follows the image's.
+pub const DOCUMENT_01: Rules =
+    Rules { families: &[Family::Strips], repeated: &[], minors: &[0], masks: false };
 /// With tiles.
 pub const C_11: Rules = Rules { families: BOTH, ..DOCUMENT_01 };
 /// With more than one metadata tag.
 pub const C_12: Rules = Rules { repeated: &[METADATA], ..C_11 };
 /// With minor revision 1.
 pub const C_13: Rules = Rules { minors: &[0, 1], ..C_12 };
+/// With a mask behind the image.
+pub const C_14: Rules = Rules { masks: true, ..C_13 };
 /// The rules that every call goes by.
-pub const IN_FORCE: Rules = C_13;
+pub const IN_FORCE: Rules = C_14;
 
 impl Family {
     /// What one piece is called.
@@ -195,7 +205,7 @@ const SIXTEENS: Allowed = Allowed::MultiplesOf(16);
 const STRIPS: Need = Need::In(Family::Strips);
 const TILES: Need = Need::In(Family::Tiles);
 
-use Allowed::{Any, In};
+use Allowed::{Any, In, Just};
 use Need::{Always, Never};
 
 /// The table of tags.
@@ -222,6 +232,22 @@ pub static TAGS: [TagRow; 21] = [
     tag(CHARACTERS, Never, &[ASCII], MANY, Any),
     tag(METADATA, Never, &[BYTE], MANY, Any),
 ];
+
+/// The table of the mask of an image of this size: 254, and the image's rows for
+/// its picture, of which some have another value.
+pub fn of_mask(width: u32, length: u32) -> Vec<TagRow> {
+    let of_picture = TAGS.iter().filter(|row| row.tag < SCALE).map(|row| {
+        let allowed = match row.tag {
+            WIDTH => Just(width),
+            LENGTH => Just(length),
+            BITS | SAMPLES => Just(1),
+            PHOTOMETRIC => Just(4),
+            _ => row.allowed,
+        };
+        TagRow { allowed, ..*row }
+    });
+    [tag(SUBFILE, Always, &[LONG], ONE, Just(4))].into_iter().chain(of_picture).collect()
+}
 
 /// The kind of a key; its number is the one a row shows.
 #[derive(Clone, Copy, Debug, PartialEq, Eq)]

@@ -29,7 +29,7 @@ pub fn one(directory: &Directory, tag: u16) -> u32 {
 /// among them.
 pub fn rule9(directory: &Directory, family: Family) -> Result<(), Refusal> {
     let needed = |row: &&TagRow| row.need == Need::Always || row.need == Need::In(family);
-    for row in directory.table().filter(needed) {
+    for row in directory.table.iter().filter(needed) {
         if directory.find(row.tag).is_none() {
             return refuse(9, u32::from(row.tag), &format!("{} absent", row.tag));
         }
@@ -38,8 +38,8 @@ pub fn rule9(directory: &Directory, family: Family) -> Result<(), Refusal> {
 }
 
 /// The present tags of the table, lowest first, with each entry of a tag.
-fn present<'d>(directory: &'d Directory) -> impl Iterator<Item = (&'static TagRow, &'d Entry)> {
-    directory.table().flat_map(|row| directory.all(row.tag).map(move |entry| (row, entry)))
+fn present<'d>(directory: &'d Directory) -> impl Iterator<Item = (&'d TagRow, &'d Entry)> {
+    directory.table.iter().flat_map(|row| directory.all(row.tag).map(move |entry| (row, entry)))
 }
 
 /// Rule 10: each entry of a present tag of the table has its type and count.

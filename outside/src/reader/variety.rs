@@ -2,7 +2,7 @@
 //! that the generator cannot quietly stop making a kind of file.
 
 use super::directory::Entry;
-use super::examine::{examine, Accepted};
+use super::examine::{examine, Accepted, Picture};
 use super::ground::Georeference;
 use super::keys::number_of;
 use super::number::Order;
@@ -134,6 +134,42 @@ pub const VARIETIES: &[&str] = &[
     "affine with rotation",
     "georeference with -0",
     "corner -0",
+    "no mask",
+    "strips and a mask in strips",
+    "strips and a mask in tiles",
+    "tiles and a mask in strips",
+    "tiles and a mask in tiles",
+    "mask in one piece",
+    "mask in many pieces",
+    "mask with compression 1",
+    "mask with compression 2",
+    "mask with compression 32773",
+    "mask with 284",
+    "mask without 284",
+    "mask with an unknown tag",
+    "mask with 34735",
+    "mask with 50909 twice",
+    "mask with more than one metadata tag in the image",
+    "mask's size in other types than the image's",
+    "mask's directory before the image's",
+    "mask's directory behind the image's",
+    "mask's directory between pieces of the image",
+    "mask's directory before all pieces of the image",
+    "mask's directory behind all pieces of the image",
+    "mask's directory ends at n",
+    "mask's value between pieces of the image",
+    "mask's piece between pieces of the image",
+    "mask's piece ends at n",
+    "mask's piece ends where the image's list starts",
+    "mask's piece starts where the image's list ends",
+    "mask's piece ends where its own list starts",
+    "mask's piece starts where its own list ends",
+    "image's piece ends where the mask's list starts",
+    "image's piece starts where the mask's list ends",
+    "picture and mask share bytes",
+    "image and mask share a value",
+    "image's value over the mask's directory",
+    "a picture over an unknown value of the mask",
 ];
 
 /// The labels of a file; none for a refused one.
@@ -149,6 +185,7 @@ pub fn varieties(file: &[u8]) -> Vec<&'static str> {
     labels.extend(of_keys(&accepted));
     labels.extend(of_key_values(&accepted));
     labels.extend(of_ground(&accepted));
+    labels.extend(of_mask(&accepted));
     let mut found: Vec<&'static str> = labels.iter().map(|label| label_of(label)).collect();
     found.sort_unstable();
     found.dedup();
@@ -165,14 +202,14 @@ fn chosen(labels: &[(bool, impl ToString)]) -> Vec<String> {
 }
 
 fn of_tags(accepted: &Accepted) -> Vec<String> {
-    let directory = &accepted.directory;
+    let directory = &accepted.image.directory;
     let mut labels = Vec::new();
     let numbers = TAGS.iter().filter(|row| row.kinds.contains(&SHORT) && row.kinds.contains(&LONG));
     for entry in numbers.filter_map(|row| directory.find(row.tag)) {
         let word = if entry.kind == SHORT { "SHORT" } else { "LONG" };
         labels.push(format!("{} {word}", entry.tag));
     }
-    let (offsets, byte_counts) = accepted.family.places();
+    let (offsets, byte_counts) = accepted.image.family.places();
     for tag in [BITS, offsets, byte_counts, CHARACTERS, DOUBLES, METADATA] {
         labels.push(match directory.find(tag) {
             None => format!("{tag} absent"),
@@ -199,7 +236,7 @@ fn of_tags(accepted: &Accepted) -> Vec<String> {
 
 /// How several metadata texts stand; nothing for a file of one or none.
 fn of_texts(accepted: &Accepted) -> Vec<String> {
-    let (directory, word) = (&accepted.directory, accepted.family.word());
+    let (directory, word) = (&accepted.image.directory, accepted.image.family.word());
     let entries: Vec<&Entry> = directory.all(METADATA).collect();
     if entries.len() < 2 {
         return Vec::new();
@@ -211,7 +248,7 @@ fn of_texts(accepted: &Accepted) -> Vec<String> {
     };
     let later = far(&entries[1..]);
     let beside = |touch: &dyn Fn(&Range<u64>, &Range<u64>) -> bool| {
-        accepted.pieces.list.iter().any(|piece| later.iter().any(|text| touch(piece, text)))
+        accepted.image.pieces.list.iter().any(|piece| later.iter().any(|text| touch(piece, text)))
     };
     let has = |tag: u16| directory.find(tag).is_some();
     let all = directory.entries.len() as u64 == MOST_ENTRIES;
@@ -240,9 +277,9 @@ fn of_texts(accepted: &Accepted) -> Vec<String> {
 }
 
 /// The values outside their entries, of table tags or of the others.
-fn values(accepted: &Accepted, in_table: bool) -> Vec<Range<u64>> {
-    let known = |tag: u16| TAGS.iter().any(|row| row.tag == tag);
-    let entries = accepted.directory.entries.iter();
+fn values(picture: &Picture, in_table: bool) -> Vec<Range<u64>> {
+    let known = |tag: u16| picture.directory.table.iter().any(|row| row.tag == tag);
+    let entries = picture.directory.entries.iter();
     let wanted = entries.filter(|e| known(e.tag) == in_table && !e.in_entry());
     wanted.filter_map(Entry::value).collect()
 }
@@ -253,8 +290,8 @@ fn pairwise_share(ranges: &[Range<u64>]) -> bool {
 }
 
 fn of_layout(accepted: &Accepted) -> Vec<String> {
-    let (directory, n) = (accepted.directory.range(), accepted.directory.n());
-    let values = values(accepted, true);
+    let (directory, n) = (accepted.image.directory.range(), accepted.image.directory.n());
+    let values = values(&accepted.image, true);
     let before = values.iter().all(|value| directory.end <= value.start);
     let after = values.iter().all(|value| value.end <= directory.start);
     chosen(&[
@@ -269,17 +306,17 @@ fn of_layout(accepted: &Accepted) -> Vec<String> {
 }
 
 fn of_pieces(accepted: &Accepted) -> Vec<String> {
-    let (word, pieces) = (accepted.family.word(), &accepted.pieces.list);
-    let mut list = values(accepted, true);
-    list.push(accepted.directory.range());
-    let unknown = values(accepted, false);
+    let (word, pieces) = (accepted.image.family.word(), &accepted.image.pieces.list);
+    let mut list = values(&accepted.image, true);
+    list.push(accepted.image.directory.range());
+    let unknown = values(&accepted.image, false);
     let any = |test: &dyn Fn(&Range<u64>) -> bool| pieces.iter().any(test);
     chosen(&[
         (pieces.len() == 1, format!("one {word}")),
         (pieces.len() > 1, format!("many {word}s")),
         (pairwise_share(pieces), format!("{word}s overlap")),
         (any(&|piece| piece.start % 2 == 1), format!("{word} at an odd offset")),
-        (any(&|piece| piece.end == accepted.directory.n()), format!("{word} ends at n")),
+        (any(&|piece| piece.end == accepted.image.directory.n()), format!("{word} ends at n")),
         (
             any(&|piece| list.iter().any(|part| part.start == piece.end)),
             format!("{word} ends where the list starts"),
@@ -297,10 +334,10 @@ fn of_pieces(accepted: &Accepted) -> Vec<String> {
 
 /// How the tiles lie over the picture; nothing for one in strips.
 fn of_tiles(accepted: &Accepted) -> Vec<String> {
-    if accepted.family != Family::Tiles {
+    if accepted.image.family != Family::Tiles {
         return Vec::new();
     }
-    let number = |tag: u16| one(&accepted.directory, tag);
+    let number = |tag: u16| one(&accepted.image.directory, tag);
     let (width, length) = (number(WIDTH), number(LENGTH));
     let (across, down) = (number(TILE_WIDTH), number(TILE_LENGTH));
     let past = width % across != 0 || length % down != 0;
@@ -317,10 +354,10 @@ fn of_tiles(accepted: &Accepted) -> Vec<String> {
 }
 
 fn of_picture(accepted: &Accepted) -> Vec<String> {
-    let samples = one(&accepted.directory, SAMPLES);
+    let samples = one(&accepted.image.directory, SAMPLES);
     vec![
-        format!("bits {}", needed(&accepted.directory, BITS)[0]),
-        format!("compression {}", one(&accepted.directory, COMPRESSION)),
+        format!("bits {}", needed(&accepted.image.directory, BITS)[0]),
+        format!("compression {}", one(&accepted.image.directory, COMPRESSION)),
         format!("{} sample{}", if samples == 1 { "one" } else { "many" }, plural(samples)),
     ]
 }
@@ -340,7 +377,7 @@ fn of_keys(accepted: &Accepted) -> Vec<String> {
         .map(|entry| format!("key {} at {}", kind_of(entry.key).word(), entry.location))
         .collect();
     let ascii = |key: u16| kind_of(key) == Kind::Ascii;
-    let in_entry = accepted.directory.find(CHARACTERS).is_some_and(Entry::in_entry);
+    let in_entry = accepted.image.directory.find(CHARACTERS).is_some_and(Entry::in_entry);
     let numbers = accepted.runs.directory.len() / 2;
     labels.extend(chosen(&[
         (number_of(keys, RASTER) == Some(1), "PixelIsArea"),
@@ -395,5 +432,91 @@ fn of_ground(accepted: &Accepted) -> Vec<String> {
         (affine && (six[1] != 0.0 || six[3] != 0.0), "affine with rotation"),
         (six.iter().any(negative_zero), "georeference with -0"),
         (accepted.corners.iter().any(negative_zero), "corner -0"),
+    ])
+}
+
+/// How a mask lies beside its image.
+fn of_mask(accepted: &Accepted) -> Vec<String> {
+    let image = &accepted.image;
+    let Some(mask) = &accepted.mask else { return vec!["no mask".to_string()] };
+    let words = [image.family.word(), mask.family.word()];
+    let has = |tag: u16| mask.directory.all(tag).count();
+    let kinds = |tag: u16| [image, mask].map(|of| of.directory.find(tag).map(|entry| entry.kind));
+    let table = |tag: u16| mask.directory.table.iter().any(|row| row.tag == tag);
+    let mut labels = chosen(&[
+        (true, format!("{}s and a mask in {}s", words[0], words[1])),
+        (true, format!("mask with compression {}", one(&mask.directory, COMPRESSION))),
+    ]);
+    labels.extend(chosen(&[
+        (mask.pieces.list.len() == 1, "mask in one piece"),
+        (mask.pieces.list.len() > 1, "mask in many pieces"),
+        (has(PLANAR) == 1, "mask with 284"),
+        (has(PLANAR) == 0, "mask without 284"),
+        (mask.directory.entries.iter().any(|entry| !table(entry.tag)), "mask with an unknown tag"),
+        (has(KEY_DIRECTORY) == 1, "mask with 34735"),
+        (has(METADATA) > 1, "mask with 50909 twice"),
+        (
+            image.directory.all(METADATA).count() > 1,
+            "mask with more than one metadata tag in the image",
+        ),
+        (
+            [WIDTH, LENGTH].iter().any(|&tag| kinds(tag)[0] != kinds(tag)[1]),
+            "mask's size in other types than the image's",
+        ),
+    ]));
+    labels.extend(of_layout_of_mask(image, mask));
+    labels
+}
+
+fn of_layout_of_mask(image: &Picture, mask: &Picture) -> Vec<String> {
+    let n = image.directory.n();
+    let [(its, of_image), (own, of_mask)] =
+        [image, mask].map(|of| (of.directory.range(), values(of, true)));
+    let its_list: Vec<&Range<u64>> = of_image.iter().chain([&its]).collect();
+    let own_list: Vec<&Range<u64>> = of_mask.iter().chain([&own]).collect();
+    let (pieces, masks) = (&image.pieces.list, &mask.pieces.list);
+    let between = |part: &Range<u64>| {
+        pieces.iter().any(|piece| piece.end <= part.start)
+            && pieces.iter().any(|piece| part.end <= piece.start)
+    };
+    let ends = |of: &[Range<u64>], list: &[&Range<u64>]| {
+        of.iter().any(|piece| list.iter().any(|part| part.start == piece.end))
+    };
+    let starts = |of: &[Range<u64>], list: &[&Range<u64>]| {
+        of.iter().any(|piece| list.iter().any(|part| part.end == piece.start))
+    };
+    let meet = |one: &[Range<u64>], other: &[Range<u64>]| {
+        one.iter().any(|part| other.iter().any(|of| share(part, of)))
+    };
+    let unknown = values(mask, false);
+    chosen(&[
+        (own.start < its.start, "mask's directory before the image's"),
+        (its.start < own.start, "mask's directory behind the image's"),
+        (between(&own), "mask's directory between pieces of the image"),
+        (
+            pieces.iter().all(|piece| own.end <= piece.start),
+            "mask's directory before all pieces of the image",
+        ),
+        (
+            pieces.iter().all(|piece| piece.end <= own.start),
+            "mask's directory behind all pieces of the image",
+        ),
+        (own.end == n, "mask's directory ends at n"),
+        (of_mask.iter().any(between), "mask's value between pieces of the image"),
+        (masks.iter().any(between), "mask's piece between pieces of the image"),
+        (masks.iter().any(|piece| piece.end == n), "mask's piece ends at n"),
+        (ends(masks, &its_list), "mask's piece ends where the image's list starts"),
+        (starts(masks, &its_list), "mask's piece starts where the image's list ends"),
+        (ends(masks, &own_list), "mask's piece ends where its own list starts"),
+        (starts(masks, &own_list), "mask's piece starts where its own list ends"),
+        (ends(pieces, &own_list), "image's piece ends where the mask's list starts"),
+        (starts(pieces, &own_list), "image's piece starts where the mask's list ends"),
+        (meet(pieces, masks), "picture and mask share bytes"),
+        (meet(&of_image, &of_mask), "image and mask share a value"),
+        (meet(&of_image, std::slice::from_ref(&own)), "image's value over the mask's directory"),
+        (
+            meet(pieces, &unknown) || meet(masks, &unknown),
+            "a picture over an unknown value of the mask",
+        ),
     ])
 }

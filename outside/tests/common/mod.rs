@@ -2,6 +2,7 @@
 #![allow(dead_code)]
 
 pub mod held;
+pub mod masks;
 pub mod questions;
 
 use outside::generator::keyplan::{Encoded, Held, Keys};
@@ -104,6 +105,19 @@ pub fn tiled(mut plan: Plan) -> Plan {
     plan.set(Tag::shorts(322, &[16]));
     plan.set(Tag::shorts(323, &[16]));
     plan.set_pieces(Family::Tiles, &[8], (true, true));
+    plan
+}
+
+/// The plan of a mask in one strip, or one tile, behind this image.
+pub fn mask_of(image: Plan, family: Family) -> Plan {
+    let mut plan = Plan::mask_of(image);
+    match family {
+        Family::Strips => plan.set(Tag::longs(278, &[u32::MAX])),
+        Family::Tiles => {
+            [322, 323].iter().for_each(|&tag| plan.set(Tag::longs(tag, &[1_000_000])));
+        }
+    }
+    plan.set_pieces(family, &[6], (true, true));
     plan
 }
 

@@ -3,7 +3,7 @@
 use crate::generator::keyplan::{Held, Keys};
 use crate::generator::plan::{Plan, Tag};
 use crate::generator::prng::Random;
-use crate::reader::tables::{Family, Need, TagRow, TAGS};
+use crate::reader::tables::{of_mask, Family, Need, TagRow, TAGS};
 use crate::reader::Order;
 
 /// Draws base plans of one byte order and one family of pieces; all of them
@@ -11,6 +11,8 @@ use crate::reader::Order;
 pub struct Bases {
     pub order: Order,
     pub family: Family,
+    /// Where the plans are those of masks: the family of the image.
+    pub behind: Option<Family>,
     pub random: Random,
 }
 
@@ -50,33 +52,49 @@ impl Bases {
         plan
     }
 
-    /// The needed tags, one piece, scale and tiepoint, three keys.
-    pub fn plain(&mut self) -> Plan {
+    /// An image without its pieces: the needed tags, scale and tiepoint, three
+    /// keys.
+    fn image(&mut self) -> Plan {
         let mut plan = self.empty();
         for (tag, number) in [(256, 4), (257, 2), (258, 8), (259, 1), (262, 1), (277, 1)] {
             plan.set(Tag::shorts(tag, &[number]));
         }
-        for (tag, number) in self.piece_sizes() {
-            plan.set(Tag::shorts(tag, &[number]));
-        }
-        let wide = (self.family == Family::Tiles || self.random.chance(50), self.random.chance(50));
-        plan.set_pieces(self.family, &[8], wide);
         plan.set(Tag::doubles(33550, &[0.5, 0.5, 0.0]));
         plan.set(Tag::doubles(33922, &[0.0, 0.0, 0.0, 500_000.0, 4_000_000.0, 0.0]));
         plan.set_keys(&few_keys().encode());
         plan
     }
 
+    /// The needed tags and one piece, of an image or of a mask. Before the mask is
+    /// an image in one piece, of whatever size.
+    pub fn plain(&mut self) -> Plan {
+        let mut plan = self.image();
+        if let Some(family) = self.behind {
+            whole(family, &mut plan);
+            plan.set_pieces(family, &[8], (true, self.random.chance(50)));
+            plan = Plan::mask_of(plan);
+        }
+        for (tag, number) in self.piece_sizes() {
+            plan.set(Tag::shorts(tag, &[number]));
+        }
+        let wide = (self.family == Family::Tiles || self.random.chance(50), self.random.chance(50));
+        plan.set_pieces(self.family, &[8], wide);
+        plan
+    }
+
     /// Every tag of the table but the matrix and the other family's, three
-    /// pieces of three samples, keys of every kind, and tags outside the table.
+    /// pieces, of an image of three samples, keys of every kind, and tags outside
+    /// the table. In a mask the keys are such, too.
     pub fn rich(&mut self) -> Plan {
         let mut plan = self.plain();
-        plan.set(Tag::longs(256, &[6]));
-        plan.set(Tag::longs(257, &[5]));
-        plan.set(Tag::shorts(258, &[8, 8, 8]));
-        plan.set(Tag::shorts(262, &[2]));
+        plan.set_both(Tag::longs(256, &[6]));
+        plan.set_both(Tag::longs(257, &[5]));
+        if self.behind.is_none() {
+            plan.set(Tag::shorts(258, &[8, 8, 8]));
+            plan.set(Tag::shorts(262, &[2]));
+            plan.set(Tag::shorts(277, &[3]));
+        }
         plan.set(Tag::bytes(270, 2, b"a sheet\0"));
-        plan.set(Tag::shorts(277, &[3]));
         self.cut(&mut plan, &[12, 9, 7]);
         plan.set(Tag::shorts(284, &[1]));
         plan.set(Tag::bytes(305, 2, b"a writer\0"));
@@ -96,11 +114,30 @@ impl Bases {
         }
     }
 
+    /// The plan of a mask in three pieces behind this image, which gets another
+    /// width and length.
+    pub fn mask_of(&mut self, mut image: Plan) -> Plan {
+        image.set(Tag::longs(256, &[40]));
+        image.set(Tag::longs(257, &[5]));
+        let mut plan = Plan::mask_of(image);
+        for (tag, number) in self.piece_sizes() {
+            plan.set(Tag::shorts(tag, &[number]));
+        }
+        plan.set_pieces(self.family, &[5, 3, 4], (true, true));
+        plan
+    }
+
+    /// The same for plans of the image before the masks.
+    pub fn of_image(&mut self) -> Bases {
+        let family = self.behind.expect("plans of masks");
+        Bases { family, behind: None, random: Random::new(self.random.draw()), ..*self }
+    }
+
     /// Cuts the picture into pieces of these byte counts, the last of them not
     /// full; offsets and byte counts are LONG.
     pub fn cut(&self, plan: &mut Plan, counts: &[u32]) {
         let pieces = counts.len() as u32;
-        plan.set(match self.family {
+        plan.set_both(match self.family {
             Family::Strips => Tag::longs(257, &[2 * pieces - 1]),
             Family::Tiles => Tag::longs(256, &[16 * pieces - 8]),
         });
@@ -109,22 +146,21 @@ impl Bases {
 
     /// Makes a piece as large as can be, so that it holds any picture.
     pub fn one_piece(&self, plan: &mut Plan) {
-        match self.family {
-            Family::Strips => plan.set(Tag::longs(278, &[u32::MAX])),
-            Family::Tiles => {
-                plan.set(Tag::longs(322, &[u32::MAX - 15]));
-                plan.set(Tag::longs(323, &[u32::MAX - 15]));
-            }
-        }
+        whole(self.family, plan);
     }
 
-    /// The rows of the table without those of the other family.
-    pub fn rows(&self) -> impl Iterator<Item = &'static TagRow> {
-        let family = self.family;
-        TAGS.iter().filter(move |row| match row.need {
-            Need::In(other) => other == family,
+    /// The rows of the table, the image's or the mask's, without those of the other
+    /// family.
+    pub fn rows(&self) -> Vec<TagRow> {
+        let mut rows = match self.behind {
+            None => TAGS.to_vec(),
+            Some(_) => of_mask(4, 2),
+        };
+        rows.retain(|row| match row.need {
+            Need::In(other) => other == self.family,
             _ => true,
-        })
+        });
+        rows
     }
 
     /// The plain file with a matrix instead of scale and tiepoint.
@@ -134,6 +170,17 @@ impl Bases {
         plan.remove(33922);
         plan.set(Tag::doubles(34264, &MATRIX));
         plan
+    }
+}
+
+/// Sets the tags that give the size of a piece to the largest there are.
+fn whole(family: Family, plan: &mut Plan) {
+    match family {
+        Family::Strips => plan.set(Tag::longs(278, &[u32::MAX])),
+        Family::Tiles => {
+            plan.set(Tag::longs(322, &[u32::MAX - 15]));
+            plan.set(Tag::longs(323, &[u32::MAX - 15]));
+        }
     }
 }
 

@@ -1,5 +1,5 @@
 //! Rules 23 to 26: rows, key block and citation of accepted files, and that
-//! each call gives rules 1 to 22 and 27 first.
+//! each call gives rules 1 to 22 and 27 first. `masks` has 28.
 
 use super::bases::{few_keys, many_keys, Bases};
 use super::{Call, Cases};

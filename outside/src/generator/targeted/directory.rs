@@ -1,4 +1,4 @@
-//! Rules 6 to 8: order of the tags, values of all entries, next offset.
+//! Rules 6 to 8: order of the tags, values of all entries, next offset of a mask.
 
 use super::bases::Bases;
 use super::Cases;
@@ -16,7 +16,9 @@ pub fn cases(bases: &mut Bases, cases: &mut Cases) {
     }
     unknown_types(bases, cases);
     counts_of_zero(bases, cases);
-    next_offset(bases, cases);
+    if bases.behind.is_some() {
+        next_offset(bases, cases);
+    }
 }
 
 fn tag_order(bases: &mut Bases, cases: &mut Cases) {
@@ -159,12 +161,13 @@ fn counts_of_zero(bases: &mut Bases, cases: &mut Cases) {
     }
 }
 
+/// Rule 8 is a mask's alone.
 fn next_offset(bases: &mut Bases, cases: &mut Cases) {
     let laid = bases.plain().lay();
     cases.kept("8 next offset", laid.bytes.clone());
     for number in [1, 8, 256, 65_536, 0x0100_0000, laid.directory as u32, u32::MAX] {
         let mut laid = laid.clone();
-        laid.put_long(laid.directory + 2 + 12 * laid.spots.len(), number);
+        laid.put_long(laid.next(), number);
         cases.broken("8 next offset", laid.bytes, 0);
     }
 }

@@ -103,7 +103,7 @@ fn neither(bases: &mut Bases, cases: &mut Cases) {
 
 fn with_next(laid: &Laid) -> Vec<u8> {
     let mut laid = laid.clone();
-    laid.put_long(laid.directory + 2 + 12 * laid.spots.len(), 8);
+    laid.put_long(laid.next(), 8);
     laid.bytes
 }
 
@@ -114,7 +114,8 @@ fn after_8_and_before_9(bases: &mut Bases, cases: &mut Cases) {
     mixed.set(Tag::longs(other, &[16]));
     for (clause, plan) in [(TWO, mixed), (NONE, bare(bases))] {
         let laid = plan.lay();
-        cases.broken("8 next offset", with_next(&laid), 0);
+        let next = if bases.behind.is_some() { "8 next offset" } else { clause };
+        cases.broken(next, with_next(&laid), 0);
         let mut counted = laid.clone();
         counted.put_long(laid.spot(277).entry + 4, 0);
         cases.broken("7 type 3 count 0", counted.bytes, 277);

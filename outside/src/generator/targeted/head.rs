@@ -8,6 +8,10 @@ use crate::reader::Order;
 pub fn cases(bases: &mut Bases, cases: &mut Cases) {
     length(bases, cases);
     marks(bases, cases);
+}
+
+/// Rules 4 and 5, of an image or of a mask.
+pub fn directories(bases: &mut Bases, cases: &mut Cases) {
     offsets(bases, cases);
     counts(bases, cases);
     directory_end(bases, cases);
@@ -42,7 +46,7 @@ fn marks(bases: &mut Bases, cases: &mut Cases) {
 /// The file with the directory's offset set.
 fn offset(laid: &Laid, number: usize) -> Vec<u8> {
     let mut laid = laid.clone();
-    laid.put_long(4, number as u32);
+    laid.put_long(laid.pointer(), number as u32);
     laid.bytes
 }
 
@@ -52,8 +56,13 @@ fn offsets(bases: &mut Bases, cases: &mut Cases) {
     let mut laid = plan.lay();
     cases.kept("4 odd", laid.bytes.clone());
     cases.kept("4 below 8", laid.bytes.clone());
-    for number in [0, 2, 4, 6] {
+    for number in [2, 4, 6] {
         cases.broken("4 below 8", offset(&laid, number), 0);
+    }
+    // with 0 there is no mask
+    match bases.behind {
+        None => cases.broken("4 below 8", offset(&laid, 0), 0),
+        Some(_) => cases.kept("4 below 8", offset(&laid, 0)),
     }
     for zeros in [4, 3] {
         laid.bytes.resize(laid.n() + zeros, 0);
@@ -94,12 +103,9 @@ fn counts(bases: &mut Bases, cases: &mut Cases) {
     cases.broken("5 past n", counted(1_024), 0);
     cases.kept("5 c above 1024", many(bases, 1_024).lay().bytes);
     cases.broken("5 c above 1024", many(bases, 1_025).lay().bytes, 0);
-    let mut one = Laid { bytes: laid.bytes[..8].to_vec(), ..laid };
-    one.put_long(4, 8);
-    one.bytes.resize(8 + 2 + 12 + 4, 0);
-    one.put_short(8, 1);
-    one.put_short(10, 1);
-    cases.kept_until("5 c is 0", one.bytes, 27, 0);
+    let mut one = bases.plain();
+    (one.tags, one.pieces) = (vec![Tag::raw(1, 0, 0, [0; 4])], Vec::new());
+    cases.kept_until("5 c is 0", one.lay().bytes, 27, 0);
 }
 
 /// The directory as the last part of the file.

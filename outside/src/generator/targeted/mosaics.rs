@@ -3,7 +3,7 @@
 //! text call names one of them or refuses by rule 29.
 
 use super::bases::Bases;
-use super::pieces::{around, fourteen, parts, with_piece};
+use super::pieces::{around, fourteen, own_parts, with_piece};
 use super::tags::zeros;
 use super::{Call, Cases};
 use crate::generator::plan::{Laid, Part, Plan, Tag};
@@ -16,13 +16,17 @@ pub const LONG: [&[u8]; 3] = [b"<first/>", b"<second text/>", b"third"];
 /// Texts that stand in their entries.
 const SHORT: [&[u8]; 3] = [b"one", b"2", b"four"];
 
-pub fn cases(bases: &mut Bases, cases: &mut Cases) {
+/// Rules 6 and 7, of an image or of a mask, where 50909 is outside the table.
+pub fn repeated(bases: &mut Bases, cases: &mut Cases) {
     side_by_side(bases, cases);
     apart(bases, cases);
     other_tags_twice(bases, cases);
     count_of_zero(bases, cases);
     starts(bases, cases);
     ends(bases, cases);
+}
+
+pub fn cases(bases: &mut Bases, cases: &mut Cases) {
     types(bases, cases);
     list_of_long_texts(bases, cases);
     list_of_short_texts(bases, cases);
@@ -135,7 +139,10 @@ fn count_of_zero(bases: &mut Bases, cases: &mut Cases) {
             counted.put_short(text.entry + 2, 2);
             cases.broken(clause, counted.bytes.clone(), PLACE);
             counted.put_short(text.entry + 2, 13);
-            cases.broken("10 a later 50909 type", counted.bytes, PLACE);
+            match bases.behind {
+                None => cases.broken("10 a later 50909 type", counted.bytes, PLACE),
+                Some(_) => cases.kept(clause, counted.bytes),
+            }
             let mut one = laid.clone();
             one.put_long(text.entry + 4, 1);
             cases.kept(clause, one.bytes);
@@ -240,7 +247,7 @@ fn list_of_long_texts(bases: &mut Bases, cases: &mut Cases) {
         let mut plan = mosaic(bases, &LONG);
         plan.gap = (4, 4);
         let laid = plan.lay();
-        let texts = parts(bases.family, &laid).into_iter().filter(|part| part.0.ends_with("50909"));
+        let texts = own_parts(bases, &laid).into_iter().filter(|part| part.0.ends_with("50909"));
         texts.for_each(|part| around(&laid, piece, &part, cases));
     }
 }
@@ -304,7 +311,7 @@ fn list_of_many(bases: &mut Bases, cases: &mut Cases) {
     plan.gap = (4, 4);
     let laid = plan.lay();
     let texts: Vec<_> =
-        parts(bases.family, &laid).into_iter().filter(|part| part.0.ends_with("50909")).collect();
+        own_parts(bases, &laid).into_iter().filter(|part| part.0.ends_with("50909")).collect();
     for at in [0, 1, 500, texts.len() - 1] {
         around(&laid, at % 3, &texts[at], cases);
     }

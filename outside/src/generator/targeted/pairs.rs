@@ -1,5 +1,6 @@
-//! Two rules broken at once in one file: the one of lower number is named, 27
-//! between 8 and 9. And tags of rule 12 at fault together: the lowest is named.
+//! Two rules broken at once in one file, by its image or by its mask: the first
+//! of them is named, in order of number but for 27, which is between 8 and 9, and
+//! for the mask's, which come behind all others. And tags of rule 12 at fault together: the lowest is named.
 //! And texts asked for by a number that no text has: rule 29 is the last.
 
 use super::bases::Bases;
@@ -15,18 +16,17 @@ type Damage = (&'static str, u32, fn(&mut Laid));
 pub const DAMAGES: [Damage; 22] = [
     ("2 neither order", 0, |laid| laid.bytes[0] = 0),
     ("3 not 42", 0, |laid| laid.put_short(2, 43)),
-    ("4 odd", 0, |laid| laid.put_long(4, 9)),
+    ("4 odd", 0, |laid| laid.put_long(laid.pointer(), 9)),
     ("5 c is 0", 0, |laid| laid.put_short(laid.directory, 0)),
     ("6 equal tag", 65_000, |laid| laid.put_short(laid.spot(65_001).entry, 65_000)),
     ("7 type 2 count 0", 305, |laid| laid.put_long(laid.spot(305).entry + 4, 0)),
-    ("8 next offset", 0, |laid| laid.put_long(laid.directory + 2 + 12 * laid.spots.len(), 8)),
     ("27 both families", 0, |laid| {
         let (from, to) = if laid.tiled() { (270, 273) } else { (320, 322) };
         laid.put_short(laid.spot(from).entry, to);
     }),
     ("9 256 absent", 256, |laid| laid.put_short(laid.spot(256).entry, 255)),
     ("10 257 type", 257, |laid| laid.put_short(laid.spot(257).entry + 2, 13)),
-    ("11 262 above", 262, |laid| laid.put_short(laid.spot(262).value, 4)),
+    ("11 262 above", 262, |laid| laid.put_short(laid.spot(262).value, 5)),
     ("12 258 values differ", 258, |laid| laid.put_short(laid.spot(258).value + 4, 16)),
     ("13 piece byte count 0", 1, |laid| laid.put_long(laid.places().1.value + 4, 0)),
     ("14 piece on directory", 0, |laid| {
@@ -43,7 +43,24 @@ pub const DAMAGES: [Damage; 22] = [
         laid.put_double(laid.spot(33550).value + 8, 1e308f64.to_bits());
         laid.put_double(laid.spot(33922).value + 32, (-f64::MAX).to_bits());
     }),
+    ("28 4 odd", 4, |laid| laid.put_long(laid.next(), 9)),
 ];
+
+/// One for each rule of a mask, on the rich mask: those of the image, but for two.
+fn of_mask() -> Vec<Damage> {
+    let mut damages = DAMAGES.to_vec();
+    damages.retain(|damage| matches!(rule_of(damage.0), 4..=14 | 27));
+    let at = |rule: u32| move |damage: &Damage| rule_of(damage.0) == rule;
+    let twelve = damages.iter().position(at(12)).expect("rule 12");
+    damages[twelve] = ("12 258 count is not samples", 258, |laid| {
+        let bits = laid.spot(258).entry;
+        laid.put_long(bits + 4, 2);
+        laid.put_short(bits + 10, 1);
+    });
+    let eight = damages.iter().position(at(27)).expect("rule 27");
+    damages.insert(eight, ("8 next offset", 0, |laid| laid.put_long(laid.next(), 8)));
+    damages
+}
 
 /// Puts a number of the key directory's entry at `position`.
 fn put_key(laid: &mut Laid, position: usize, column: usize, number: u16) {
@@ -91,7 +108,8 @@ const OF_LATER: [Damage; 4] = [
 ];
 
 pub fn cases(bases: &mut Bases, cases: &mut Cases) {
-    rules_together(bases, cases);
+    rules_together(bases, cases, &DAMAGES);
+    image_before_mask(bases, cases);
     tags_together(bases, cases);
     later_texts_together(bases, cases);
     numbers_last(bases, cases);
@@ -153,15 +171,36 @@ fn tags_together(bases: &mut Bases, cases: &mut Cases) {
     }
 }
 
+/// The same of the rules of a mask.
+pub fn cases_of_mask(bases: &mut Bases, cases: &mut Cases) {
+    rules_together(bases, cases, &of_mask());
+}
+
 /// Each rule with itself alone, and with each later one.
-fn rules_together(bases: &mut Bases, cases: &mut Cases) {
-    for (at, (clause, place, first)) in DAMAGES.iter().enumerate() {
+fn rules_together(bases: &mut Bases, cases: &mut Cases, damages: &[Damage]) {
+    for (at, (clause, place, first)) in damages.iter().enumerate() {
         let clause = clause.replace("piece", bases.family.word());
-        for (_, _, second) in &DAMAGES[at..] {
+        for (_, _, second) in &damages[at..] {
             let mut laid = bases.rich().lay();
             second(&mut laid);
             first(&mut laid);
             cases.broken(&clause, laid.bytes, *place);
+        }
+    }
+}
+
+/// Each rule of the image before a mask that keeps every rule, and before one
+/// that breaks the first rule or a later one: the mask is not looked at.
+fn image_before_mask(bases: &mut Bases, cases: &mut Cases) {
+    let spoiled: [fn(&mut Plan); 3] = [|_| (), |mask| mask.remove(254), |mask| mask.tags.clear()];
+    for (clause, place, damage) in DAMAGES.iter().filter(|damage| rule_of(damage.0) != 28) {
+        for spoil in spoiled {
+            let image = bases.rich();
+            let mut mask = bases.mask_of(image);
+            spoil(&mut mask);
+            let mut laid = mask.lay().turned();
+            damage(&mut laid);
+            cases.broken(&clause.replace("piece", bases.family.word()), laid.bytes, *place);
         }
     }
 }

@@ -2,8 +2,8 @@
 
 use super::bases::Bases;
 use super::Cases;
-use crate::generator::plan::{Laid, Part, Tag};
-use crate::reader::tables::{Family, TAGS};
+use crate::generator::plan::{Laid, Part, Sheet, Tag};
+use crate::reader::tables::{Family, TagRow};
 
 pub fn cases(bases: &mut Bases, cases: &mut Cases) {
     piece_ends(bases, cases);
@@ -28,8 +28,18 @@ pub fn fourteen(family: Family, part: &str) -> String {
 
 /// The file with one piece's offset and byte count set; both tags are LONG.
 pub fn with_piece(laid: &Laid, piece: usize, offset: usize, count: usize) -> Laid {
+    with_piece_of(laid, &laid.sheet, piece, (offset, count))
+}
+
+/// The same with a piece of that sheet.
+pub fn with_piece_of(
+    laid: &Laid,
+    sheet: &Sheet,
+    piece: usize,
+    (offset, count): (usize, usize),
+) -> Laid {
     let mut laid = laid.clone();
-    let (offsets, counts) = laid.places();
+    let (offsets, counts) = sheet.places();
     laid.put_long(offsets.value + 4 * piece, offset as u32);
     laid.put_long(counts.value + 4 * piece, count as u32);
     laid
@@ -110,8 +120,9 @@ fn narrow_pieces(bases: &mut Bases, cases: &mut Cases) {
 /// The first piece at fault is named, and all of 13 comes before 14.
 fn several_faults(bases: &mut Bases, cases: &mut Cases) {
     let [empty, past] = ["byte count 0", "past n"].map(|what| thirteen(bases.family, what));
-    let [directory, keys] =
-        ["directory", "value of 34735"].map(|part| fourteen(bases.family, part));
+    let (_, byte_counts) = bases.family.places();
+    let directory = fourteen(bases.family, "directory");
+    let value = fourteen(bases.family, &format!("value of {byte_counts}"));
     let laid = with_tail(bases);
     let n = laid.n();
     let two = with_piece(&with_piece(&laid, 2, 0, 1), 1, n, 1);
@@ -120,9 +131,11 @@ fn several_faults(bases: &mut Bases, cases: &mut Cases) {
     cases.broken(&directory, on_list.bytes.clone(), 0);
     cases.broken(&empty, with_piece(&on_list, 2, 9, 0).bytes, 2);
     cases.broken(&past, with_piece(&on_list, 1, n, 1).bytes, 1);
-    let later = with_piece(&with_piece(&laid, 2, laid.directory, 1), 1, laid.spot(34735).value, 1);
-    cases.broken(&keys, later.bytes, 1);
-    for piece in 0..3 {
+    let counts = laid.spot(byte_counts).value;
+    let later = with_piece(&with_piece(&laid, 2, laid.directory, 1), 1, counts, 1);
+    cases.broken(&value, later.bytes, 1);
+    // a piece on all of the list is named by the first part of it
+    for piece in 0..if bases.behind.is_none() { 3 } else { 0 } {
         let whole = with_piece(&laid, piece, 8, n - 8);
         cases.broken(&directory, whole.bytes, piece as u32);
     }
@@ -131,30 +144,41 @@ fn several_faults(bases: &mut Bases, cases: &mut Cases) {
 /// A part of the list: the clause of rule 14 for it, its first byte and its end.
 pub type Listed = (String, usize, usize);
 
-/// The parts of the full list outside the head: the directory, then the
-/// values outside their entries.
-pub fn parts(family: Family, laid: &Laid) -> Vec<Listed> {
-    let end = laid.directory + 2 + 12 * laid.spots.len() + 4;
-    let mut parts = vec![(fourteen(family, "directory"), laid.directory, end)];
-    let listed = |tag: u16| TAGS.iter().any(|row| row.tag == tag);
-    for spot in laid.spots.iter().filter(|spot| spot.size > 4 && listed(spot.tag)) {
-        let later = if spot.entry == laid.spot(spot.tag).entry { "" } else { "a later " };
-        let clause = fourteen(family, &format!("value of {later}{}", spot.tag));
-        parts.push((clause, spot.value, spot.value + spot.size));
+/// The parts of the full list that a sheet with this table has: the directory,
+/// then the values outside their entries. `clause` makes the clause of a part's
+/// name.
+pub fn parts(rows: &[TagRow], sheet: &Sheet, clause: impl Fn(&str) -> String) -> Vec<Listed> {
+    let mut parts = vec![(clause("directory"), sheet.directory, sheet.next() + 4)];
+    let listed = |tag: u16| rows.iter().any(|row| row.tag == tag);
+    for spot in sheet.spots.iter().filter(|spot| spot.size > 4 && listed(spot.tag)) {
+        let later = if spot.entry == sheet.spot(spot.tag).entry { "" } else { "a later " };
+        let name = format!("value of {later}{}", spot.tag);
+        parts.push((clause(&name), spot.value, spot.value + spot.size));
     }
     parts
+}
+
+/// The parts of the plan's own sheet, for its own pieces.
+pub fn own_parts(bases: &Bases, laid: &Laid) -> Vec<Listed> {
+    parts(&bases.rows(), &laid.sheet, |name| fourteen(bases.family, name))
 }
 
 /// Piece `piece` at both ends of a part, with no byte and with one byte
 /// shared, inside it and around it. Four free bytes stand around each part.
 pub fn around(laid: &Laid, piece: usize, part: &Listed, cases: &mut Cases) {
+    around_of(laid, &laid.sheet, piece, part, cases);
+}
+
+/// The same with a piece of that sheet.
+pub fn around_of(laid: &Laid, sheet: &Sheet, piece: usize, part: &Listed, cases: &mut Cases) {
     let (clause, start, end) = part;
-    for (offset, count) in [(start - 2, 2), (start - 1, 1), (*end, 1), (*end, 2)] {
-        cases.kept(clause, with_piece(laid, piece, offset, count).bytes);
+    for place in [(start - 2, 2), (start - 1, 1), (*end, 1), (*end, 2)] {
+        cases.kept(clause, with_piece_of(laid, sheet, piece, place).bytes);
     }
     let shared = [(start - 2, 3), (end - 1, 2), (*start, 1), (end - 1, 1), (start + 1, 2)];
-    for (offset, count) in shared.into_iter().chain([(start - 2, end - start + 4)]) {
-        cases.broken(clause, with_piece(laid, piece, offset, count).bytes, piece as u32);
+    for place in shared.into_iter().chain([(start - 2, end - start + 4)]) {
+        let file = with_piece_of(laid, sheet, piece, place).bytes;
+        cases.broken(clause, file, piece as u32);
     }
 }
 
@@ -163,7 +187,7 @@ fn list_of_rich(bases: &mut Bases, cases: &mut Cases) {
         let mut plan = bases.rich();
         plan.gap = (4, 4);
         let laid = plan.lay();
-        for part in parts(bases.family, &laid) {
+        for part in own_parts(bases, &laid) {
             around(&laid, piece, &part, cases);
         }
     }
@@ -174,7 +198,7 @@ fn list_of_affine(bases: &mut Bases, cases: &mut Cases) {
     bases.cut(&mut plan, &[4, 4, 4]);
     plan.gap = (4, 4);
     let laid = plan.lay();
-    for part in parts(bases.family, &laid) {
+    for part in own_parts(bases, &laid) {
         around(&laid, 2, &part, cases);
     }
 }
@@ -189,7 +213,7 @@ fn list_of_short_values(bases: &mut Bases, cases: &mut Cases) {
         let file = with_piece(&laid, 1, spot.value, 1).bytes;
         cases.broken(&clause, file, 1);
     }
-    let next = laid.directory + 2 + 12 * laid.spots.len();
+    let next = laid.next();
     for byte in 0..4 {
         cases.broken(&clause, with_piece(&laid, 1, next + byte, 1).bytes, 1);
     }
@@ -204,6 +228,6 @@ fn off_the_list(bases: &mut Bases, cases: &mut Cases) {
     for tag in [270, 305] {
         let unknown = laid.spot(tag);
         let over = with_piece(&laid, 2, unknown.value, unknown.size);
-        cases.kept(&fourteen(bases.family, "value of 50909"), over.bytes);
+        cases.kept(&fourteen(bases.family, "directory"), over.bytes);
     }
 }

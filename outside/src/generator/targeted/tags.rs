@@ -12,11 +12,14 @@ pub fn cases(bases: &mut Bases, cases: &mut Cases) {
     types_together(bases, cases);
     counts(bases, cases);
     values(bases, cases);
-    values_of_bits(bases, cases);
-    values_together(bases, cases);
-    bits_and_samples(bases, cases);
-    compression(bases, cases);
     piece_counts(bases, cases);
+    if bases.behind.is_none() {
+        fewest_keys(bases, cases);
+        values_of_bits(bases, cases);
+        values_together(bases, cases);
+        bits_and_samples(bases, cases);
+        compression(bases, cases);
+    }
     match bases.family {
         Family::Strips => strips_rounded_up(bases, cases),
         Family::Tiles => tiles_rounded_up(bases, cases),
@@ -25,7 +28,7 @@ pub fn cases(bases: &mut Bases, cases: &mut Cases) {
 
 /// The needed tags, lowest first.
 fn needed(bases: &Bases) -> Vec<u16> {
-    bases.rows().filter(|row| row.need != Need::Never).map(|row| row.tag).collect()
+    bases.rows().iter().filter(|row| row.need != Need::Never).map(|row| row.tag).collect()
 }
 
 /// Each needed tag absent, alone and with all later ones, of which one of the
@@ -50,8 +53,9 @@ fn absent(bases: &mut Bases, cases: &mut Cases) {
         cases.kept(&format!("9 {stays} absent"), plan.lay().bytes);
     }
     let mut renamed = bases.rich().lay();
+    let lowest = needed[0];
     renamed.put_short(renamed.spots[0].entry, 255);
-    cases.broken("9 256 absent", renamed.bytes, 256);
+    cases.broken(&format!("9 {lowest} absent"), renamed.bytes, u32::from(lowest));
 }
 
 /// A part of the family: each of its tags absent with each other needed tag,
@@ -136,7 +140,8 @@ fn types_of_places(bases: &mut Bases, cases: &mut Cases) {
 
 /// Two neighbours of another type: the lower one is named.
 fn types_together(bases: &mut Bases, cases: &mut Cases) {
-    let rows: Vec<&TagRow> = bases.rows().filter(|row| row.tag != 34264).collect();
+    let mut rows: Vec<TagRow> = bases.rows();
+    rows.retain(|row| row.tag != 34264);
     for pair in rows.windows(2) {
         let mut plan = bases.rich();
         plan.find(pair[0].tag).kind = 13;
@@ -164,6 +169,10 @@ fn counts(bases: &mut Bases, cases: &mut Cases) {
         }
         cases.kept(&clause, base_with(bases, row.tag).lay().bytes);
     }
+}
+
+/// A key directory of the fewest numbers that there may be.
+fn fewest_keys(bases: &mut Bases, cases: &mut Cases) {
     let mut no_keys = bases.plain();
     no_keys.set(Tag::shorts(34735, &[1, 1, 0, 0]));
     cases.kept_until("10 34735 count", no_keys.lay().bytes, 18, 1024);
@@ -177,8 +186,10 @@ fn with_value(bases: &mut Bases, tag: u16, number: u32, wide: bool, allowed: boo
     match tag {
         256 | 257 => bases.one_piece(&mut plan),
         259 if allowed && number != 1 => plan.set(Tag::shorts(258, &[1])),
-        277 if allowed => plan.set(Tag::shorts(258, &vec![8; number as usize])),
-        278 if allowed => plan.set(Tag::shorts(257, &[1])),
+        277 if allowed && bases.behind.is_none() => {
+            plan.set(Tag::shorts(258, &vec![8; number as usize]));
+        }
+        278 if allowed => plan.set_both(Tag::shorts(257, &[1])),
         _ => {}
     }
     plan.lay().bytes
@@ -216,12 +227,37 @@ const BOUNDS: [Bound; 20] = [
     (323, "not a multiple of 16", NO_SIXTEENS, SIXTEENS),
 ];
 
+/// Where a mask has others; its image is 4 wide and 2 long.
+const OF_MASK: [Bound; 15] = [
+    (254, "below", &[0, 1, 2, 3], &[4]),
+    (254, "above", &[5, 6, 7, 256, 1024, 65_540, 0x0004_0000, 0x0400_0000, u32::MAX], &[4]),
+    (256, "below", &[0, 1, 3], &[4]),
+    (256, "above", &[5, 6, 1_000_000, 1_000_001, u32::MAX], &[4]),
+    (257, "below", &[0, 1], &[2]),
+    (257, "above", &[3, 4, 1_000_000, 1_000_001, u32::MAX], &[2]),
+    (258, "below", &[0], &[1]),
+    (258, "above", &[2, 8, 16, 32, 256, 65_535], &[1]),
+    (259, "below", &[0], &[1]),
+    (259, "between", &[3, 4, 5, 7, 8, 32_772], &[1, 2, 32_773]),
+    (259, "above", &[32_774, 32_946, 65_535], &[32_773]),
+    (262, "below", &[0, 1, 2, 3], &[4]),
+    (262, "above", &[5, 8, 256, 1024, 65_535], &[4]),
+    (277, "below", &[0], &[1]),
+    (277, "above", &[2, 3, 8, 9, 256, 65_535], &[1]),
+];
+
 fn values(bases: &mut Bases, cases: &mut Cases) {
-    let known: Vec<u16> = bases.rows().map(|row| row.tag).collect();
-    for (tag, side, beyond, within) in BOUNDS.into_iter().filter(|bound| known.contains(&bound.0)) {
+    let known: Vec<u16> = bases.rows().iter().map(|row| row.tag).collect();
+    let mut bounds = BOUNDS.to_vec();
+    if bases.behind.is_some() {
+        bounds.retain(|(tag, ..)| OF_MASK.iter().all(|other| other.0 != *tag));
+        bounds.extend(OF_MASK);
+    }
+    for (tag, side, beyond, within) in bounds.into_iter().filter(|bound| known.contains(&bound.0)) {
         let clause = format!("11 {tag} {side}");
-        let long = matches!(tag, 256 | 257 | 278 | 322 | 323);
-        let forms = |number: u32| [(false, number < 65_536), (true, long)].into_iter();
+        let long = matches!(tag, 254 | 256 | 257 | 278 | 322 | 323);
+        let forms =
+            |number: u32| [(false, tag != 254 && number < 65_536), (true, long)].into_iter();
         for &number in beyond {
             for (wide, _) in forms(number).filter(|(_, fits)| *fits) {
                 let file = with_value(bases, tag, number, wide, false);
@@ -389,7 +425,14 @@ fn tiles_rounded_up(bases: &mut Bases, cases: &mut Cases) {
 /// The plain file with these numbers and so many pieces.
 fn with_pieces(bases: &mut Bases, numbers: &[(u16, u32)], pieces: usize) -> Vec<u8> {
     let mut plan = bases.plain();
-    numbers.iter().for_each(|&(tag, number)| plan.set(Tag::longs(tag, &[number])));
+    for &(tag, number) in numbers {
+        let tag = Tag::longs(tag, &[number]);
+        // a mask is as large as its image
+        match tag.tag {
+            256 | 257 => plan.set_both(tag),
+            _ => plan.set(tag),
+        }
+    }
     plan.set_pieces(bases.family, &vec![2; pieces], (true, false));
     plan.lay().bytes
 }
