@@ -2,3 +2,4 @@
 pub mod Listed
 pub mod Placing
 pub mod Imaging
+pub mod Seen

@@ -1,19 +1,22 @@
--- The image and then the survey are the whole judgement: where the image or the survey refuses, its verdict is the file's; where neither does, what both
--- found is what the view shows. Assumes nothing.
+-- The image, then the survey, then the mask are the whole judgement: where one of them refuses, its verdict is the file's; where none does, what the first
+-- two found is what the view shows. Assumes nothing.
 use Prim.Native.Nat.{ℕ, _+_, _≤_, _<_}
 use mathlib.Core.Path.{_≡_, refl, sym, ap, _∙_, subst}
-use mathlib.Core.Bool.{Bool, true, false}
+use mathlib.Core.Bool.{Bool, true, false, cond}
 use mathlib.Core.List.{List}
+use native.Mathlib.Omega.{arith}
 use lib.Dec.{eqb, lit<}
 use lib.ListN.{length}
-use borrow.Author.Tests.{eqb-true, eqb-false}
+use borrow.Author.Tests.{eqb-true, eqb-false, eq-eqb, ne-eqb, not-true}
 use Rattle.paper.specs.Bytes.{run}
 use Rattle.paper.specs.Tag
 use Rattle.paper.specs.Tags.{table, bytesOf}
 use Rattle.paper.specs.declared.Part.{Part}
-use Rattle.paper.specs.Judge.{view, headIn, nextIn, runsOf, surveyOf, surveyRules, imageStage, surveyStage, verdictOf}
+use Rattle.paper.specs.Outcome.{verdict, first, _▷_}
+use Rattle.paper.specs.Judge.{view, viewAt, headIn, nextIn, runsOf, surveyOf, surveyRules, imageStage, surveyStage, fileStage, maskStage, verdictOf}
+use Rattle.paper.specs.Judge.{hasMask, maskVerdict, rule28}
 use Rattle.paper.specs.Calls.{judgedIn}
-use Rattle.paper.proofs.First.{chain-zero, chain-stop}
+use Rattle.paper.proofs.First.{chain-zero, chain-stop, verdict-turned}
 use Rattle.paper.proofs.Called.{answer-good, answer-bad}
 use Rattle.paper.specs.declared.Judged.{Judged}
 use Rattle.paper.specs.declared.Verdict.{Verdict}
@@ -23,6 +26,7 @@ use Rattle.keys.specs.Pass.{runs}
 use Rattle.ground.specs.Answer.{Sized}
 use Rattle.image.specs.Imaging.{tagPart, imageIn, noImage, imageBy, imageOf}
 use Rattle.image.specs.declared.Image.{Image}
+use Rattle.mask.specs.Masking.{Before}
 use Rattle.survey.specs.Surveying.{surveyedOf, judgedBy}
 use Rattle.judge.specs.Examining.{examinedIn, notExamined, examinedOf}
 use Rattle.judge.proofs.Seen.{Stands, image-stands, sized}
@@ -57,14 +61,14 @@ module _ (f : List ℕ) {i : Image} (is : i ≡ imageOf f) where
 
   -- the image refuses
   pub image-bad : (i .verdict .number ≡ 0 → ⊥) → notExamined (i .verdict) ≡ examinedOf f
-  unfolding verdictOf imageIn
+  unfolding imageIn
   image-bad n = go (eqb (imageStage f .number) 0) refl
     where
       go : (b : Bool) → eqb (imageStage f .number) 0 ≡ b → notExamined (i .verdict) ≡ examinedOf f
       go true e = absurd (n (ap (λ (x : Image). x .verdict .number) (image-found (eqb-true _ _ e))))
       go false e =
           let w : i .verdict ≡ imageStage f = ap (λ (x : Image). x .verdict) (image-whole (eqb-false _ _ e)) in
-          refused-by f (i .verdict) (chain-stop (imageStage f) (surveyStage (view f)) (eqb-false _ _ e) ∙ sym w) n
+          refused-by f (i .verdict) (verdict-turned f ∙ chain-stop (imageStage f) _ (eqb-false _ _ e) ∙ sym w) n
 
   module _ (z : i .verdict .number ≡ 0) where
     image-zero : imageStage f .number ≡ 0
@@ -125,9 +129,8 @@ module _ (f : List ℕ) {i : Image} (is : i ≡ imageOf f) where
             (runs (here k .big) ((d ∙ directory-named .bytes-are) k) ((x ∙ doubles-named .bytes-are) k) ((ch ∙ characters-named .bytes-are) k))
             ((s ∙ scale-named .bytes-are) k) ((t ∙ tiepoint-named .bytes-are) k) ((m ∙ matrix-named .bytes-are) k) (here k .width) (here k .length))
 
-        verdict-is : verdictOf f ≡ surveyStage (view f)
-        unfolding verdictOf
-        verdict-is = chain-zero (imageStage f) (surveyStage (view f)) image-zero
+        verdict-is : verdictOf f ≡ surveyStage (view f) ▷ maskStage f
+        verdict-is = verdict-turned f ∙ chain-zero (imageStage f) _ image-zero
 
         -- the survey refuses
         pub survey-bad : (j .verdict .number ≡ 0 → ⊥) → notExamined (j .verdict) ≡ examinedOf f
@@ -137,26 +140,65 @@ module _ (f : List ℕ) {i : Image} (is : i ≡ imageOf f) where
             go true e = let w : j .verdict .number ≡ 0 = ap (λ (y : Judged). y .verdict .number) judged-is ∙ rw e in absurd (n w)
             go false e =
                 let w : j .verdict ≡ surveyStage (view f) = ap (λ (y : Judged). y .verdict) judged-is ∙ rw e in
-                refused-by f (j .verdict) (verdict-is ∙ sym w) n
+                refused-by f (j .verdict) (verdict-is ∙ chain-stop (surveyStage (view f)) _ (eqb-false _ _ e) ∙ sym w) n
 
-        -- neither refuses
-        pub both-good : j .verdict .number ≡ 0
-            → record {
-              judged = j;
-              big = i .big;
-              width = i .width;
-              length = i .length;
-              directory = i .directory;
-              doubles = i .doubles;
-              characters = i .characters;
-              metadata = i .metadata;
-              further = i .further;
-            }
-            ≡ examinedOf f
-        unfolding examinedOf examinedIn imageIn judgedIn
-        both-good q = go (eqb (surveyStage (view f) .number) 0) refl
-          where
-            go : (b : Bool) → eqb (surveyStage (view f) .number) 0 ≡ b
+        module _ (q : j .verdict .number ≡ 0) where
+          survey-zero : eqb (surveyStage (view f) .number) 0 ≡ true
+          survey-zero = go (eqb (surveyStage (view f) .number) 0) refl
+            where
+              go : (b : Bool) → eqb (surveyStage (view f) .number) 0 ≡ b → eqb (surveyStage (view f) .number) 0 ≡ true
+              go true e = e
+              go false e =
+                  let w : j .verdict ≡ surveyStage (view f) = ap (λ (y : Judged). y .verdict) judged-is ∙ rw e in
+                  absurd (eqb-false _ _ e (ap (λ (v : Verdict). v .number) (sym w) ∙ q))
+
+          -- what the mask is asked with
+          pub own-zero : fileStage f .number ≡ 0
+          unfolding fileStage
+          own-zero = ap (λ (v : Verdict). v .number) (chain-zero (imageStage f) (surveyStage (view f)) image-zero) ∙ eqb-true _ _ survey-zero
+
+          pub mask-before : hasMask f ≡ true → Before f (i .big) (i .at) (i .next) (i .width) (i .length) (i .span)
+          unfolding imageIn hasMask view viewAt
+          mask-before m =
+              record {
+                own = own-zero;
+                big-is = ap (λ (x : Image). x .big) here;
+                at-is = ap (λ (x : Image). x .at) here;
+                next-is = ap (λ (x : Image). x .next) here;
+                width-is = ap (λ (x : Image). x .width) here;
+                length-is = ap (λ (x : Image). x .length) here;
+                span-is = ap (λ (x : Image). x .span) here ∙ rw (not-true _ m);
+              }
+
+          -- the number that the mask's rules gave
+          module _ {m : ℕ} (is-m : m ≡ cond (hasMask f) (maskVerdict f .number) 0) where
+            to-mask : verdictOf f ≡ maskStage f
+            to-mask = verdict-is ∙ chain-zero (surveyStage (view f)) (maskStage f) (eqb-true _ _ survey-zero)
+
+            -- the mask refuses
+            pub mask-bad : (m ≡ 0 → ⊥) → notExamined (verdict 28 m) ≡ examinedOf f
+            unfolding maskStage rule28 first
+            mask-bad n = refused-by f (verdict 28 m) (to-mask ∙ go (hasMask f) refl) (λ z. omega arith)
+              where
+                go : (b : Bool) → hasMask f ≡ b → maskStage f ≡ verdict 28 m
+                go true e =
+                    let w : m ≡ maskVerdict f .number = is-m ∙ rw e in
+                    let y : eqb (maskVerdict f .number) 0 ≡ false = ne-eqb _ 0 (λ z. n (w ∙ z)) in
+                    rw (e, y) (ap (verdict 28) (sym w))
+                go false e = absurd (n (is-m ∙ rw e))
+
+            mask-none : m ≡ 0 → maskStage f .number ≡ 0
+            unfolding maskStage rule28 first
+            mask-none z = go (hasMask f) refl
+              where
+                go : (b : Bool) → hasMask f ≡ b → maskStage f .number ≡ 0
+                go true e =
+                    let w : maskVerdict f .number ≡ 0 = sym (is-m ∙ rw e) ∙ z in
+                    rw (e, eq-eqb _ 0 w)
+                go false e = rw e
+
+            -- none refuses
+            pub all-good : m ≡ 0
                 → record {
                   judged = j;
                   big = i .big;
@@ -169,8 +211,9 @@ module _ (f : List ℕ) {i : Image} (is : i ≡ imageOf f) where
                   further = i .further;
                 }
                 ≡ examinedOf f
-            go true e =
-                let w : j ≡ judgedIn (view f) = judged-is ∙ rw e in
+            unfolding examinedOf examinedIn imageIn judgedIn
+            all-good z =
+                let w : j ≡ judgedIn (view f) = judged-is ∙ rw survey-zero in
                 (λ k. record {
                   judged = w k;
                   big = here k .big;
@@ -182,7 +225,4 @@ module _ (f : List ℕ) {i : Image} (is : i ≡ imageOf f) where
                   metadata = here k .metadata;
                   further = here k .further;
                 })
-                ∙ sym (answer-good f examinedIn notExamined (ap (λ (v : Verdict). v .number) verdict-is ∙ eqb-true _ _ e))
-            go false e =
-                let w : j .verdict ≡ surveyStage (view f) = ap (λ (y : Judged). y .verdict) judged-is ∙ rw e in
-                absurd (eqb-false _ _ e (ap (λ (v : Verdict). v .number) (sym w) ∙ q))
+                ∙ sym (answer-good f examinedIn notExamined (ap (λ (v : Verdict). v .number) to-mask ∙ mask-none z))
