@@ -4,12 +4,11 @@ use Prim.Native.Nat.{ℕ}
 use mathlib.Core.Path.{_≡_, refl, sym, ap, _∙_}
 use mathlib.Core.Bool.{Bool, true, false, cond, not, _&&_}
 use mathlib.Core.List.{List}
-use native.Mathlib.Omega.{arith}
 use lib.Dec.{eqb}
 use lib.ListN.{length, getD}
 use borrow.Author.Tests.{eq-eqb, ne-eqb}
 use Rattle.paper.specs.Bytes.{run}
-use Rattle.paper.specs.Outcome.{first, verdict, _▷_}
+use Rattle.paper.specs.Outcome.{verdict, _▷_}
 use Rattle.paper.specs.Tests.{all}
 use Rattle.paper.specs.Layout.{dirLen, entries, nextOffset}
 use Rattle.paper.specs.Tags.{table}

@@ -1,10 +1,10 @@
--- The columns that the pass over a directory leaves for a table's tags, with the entries of 50909 behind the first, the head and the directory, are the
--- full reading list: a place shares a byte with one of their parts exactly where it shares one with the list. Where rule 6 is kept, each other tag of
--- the table has one entry. Assumes nothing.
+-- The columns that the pass over a directory leaves for a table's tags, with the entries of 50909 behind the first where the table has it, and the directory
+-- are what may be read of it: a place shares a byte with one of their parts exactly where it shares one with the list. With the head that is the full
+-- reading list. Where rule 6 is kept, each other tag of the table has one entry. Assumes nothing.
 use Prim.Native.Nat.{ℕ, zero, suc, _+_, _*_, _≤_, _<_, min, max}
 use mathlib.Core.Path.{_≡_, refl, sym, ap, ap₂, _∙_}
-use mathlib.Core.Bool.{Bool, true, false, cond, _&&_, _||_, and-true, and-false, or-true, or-false, or-assoc, or-comm}
-use mathlib.Core.List.{List, [], _∷_, _++_, map}
+use mathlib.Core.Bool.{Bool, true, false, cond, _&&_, _||_, and-true, and-false, or-true, or-false, or-comm, false≢true}
+use mathlib.Core.List.{List, [], _∷_, _++_, map, append-assoc}
 use native.Mathlib.Omega.{arith}
 use lib.Dec.{eqb, ltb}
 use native.Mathlib.Nat.{add-zero}
@@ -19,12 +19,12 @@ use Rattle.paper.specs.declared.Outcome.the-variants.{Kept as kept}
 use Rattle.paper.specs.Tests.{some, keep}
 use Rattle.paper.specs.Layout.{dirLen, sizeOf, startOf, typed, entries, entryAt, entryOf, behind, rule6}
 use Rattle.paper.specs.Tags.{Line, inTable, listed, hold}
-use Rattle.paper.specs.Pieces.{part, Piece, shares, fullList, touches, rule13, rule14}
+use Rattle.paper.specs.Pieces.{part, Piece, shares, directoryList, fullList, touches, rule13, rule14}
 use Rattle.paper.specs.declared.Part.{Part}
 use Rattle.paper.specs.declared.Entry.{Entry}
 use Rattle.paper.specs.Asked.{noPiece}
 use Rattle.paper.specs.Tag
-use Rattle.paper.proofs.Laws.{first-same}
+use Rattle.paper.proofs.Laws.{first-same, some-append}
 use Rattle.paper.proofs.Loops.{listedIs, some-values}
 use Rattle.paper.proofs.Several.{some-keep, rises-behind, no-other}
 use Rattle.layout.specs.Columns.{fieldOf, column}
@@ -43,11 +43,6 @@ valuePart e = part (e .start) (e .len)
 
 -- ---- whether one of many passes a test
 
-some-append : {A : Type 0} (is : A → Bool) (xs ys : List A) → some is (xs ++ ys) ≡ some is xs || some is ys
-unfolding some
-some-append is [] ys = refl
-some-append is (x ∷ xs) ys = ap (λ (b : Bool). is x || b) (some-append is xs ys) ∙ sym (or-assoc (is x) (some is xs) (some is ys))
-
 pub keep-append : {A : Type 0} (is : A → Bool) (xs ys : List A) → keep is (xs ++ ys) ≡ keep is xs ++ keep is ys
 unfolding keep
 keep-append is [] ys = refl
@@ -62,7 +57,7 @@ unfolding some
 some-map is g [] = refl
 some-map is g (x ∷ xs) = ap (λ (b : Bool). is (g x) || b) (some-map is g xs)
 
-some-or : {A : Type 0} (p q : A → Bool) (xs : List A) → some (λ x. p x || q x) xs ≡ some p xs || some q xs
+pub some-or : {A : Type 0} (p q : A → Bool) (xs : List A) → some (λ x. p x || q x) xs ≡ some p xs || some q xs
 unfolding some
 some-or p q [] = refl
 some-or p q (x ∷ xs) = ap (λ (b : Bool). p x || q x || b) (some-or p q xs) ∙ swap (p x) (q x) (some p xs) (some q xs)
@@ -236,22 +231,23 @@ entry-same tb a big at c dir j l = go (ltb 4 (E .len)) refl (typed E) refl
         let w : Meets || Dir ≡ Dir = within a (E .start) (E .len) at (dirLen c) (omega arith) (omega arith) in
         rw (and-false In) (sym (none-more (In && t) Meets Dir w))
 
--- ---- the whole list
+-- ---- the whole list, by a table that may have 50909
 
-module _ (tb : List Line) (text : inTable tb Tag.metadata ≡ true) (f : List ℕ) (big : Bool) (at c : ℕ) (dir : List ℕ) (kept6 : rule6 (entries big at c dir) ≡ kept) where
+module _ (tb : List Line) (f : List ℕ) (big : Bool) (at c : ℕ) (dir : List ℕ) (kept6 : rule6 (entries big at c dir) ≡ kept) where
   abbrev Es : List Entry
   Es = entries big at c dir
 
-  -- the parts of the columns, and those of the head and of the directory
+  -- the parts of the columns
   abbrev Own : List Part
   Own = partsOf (column (λ e. e .start) (lineTags tb) Es) (column (λ e. e .len) (lineTags tb) Es) (length (lineTags tb))
 
-  abbrev Ends : List Part
-  Ends = keep wide (part 0 8 ∷ part at (dirLen c) ∷ [])
+  -- the longer values of 50909 behind the first
+  abbrev Texts : List Part
+  Texts = keep wide (laterParts Es)
 
-  -- in front of them the longer values of 50909 behind the first
-  abbrev Parts : List Part
-  Parts = keep wide (laterParts Es) ++ (Own ++ Ends)
+  -- what may be read of the directory
+  abbrev Known : List Part
+  Known = directoryList tb at c (map (hold tb f) Es)
 
   module _ (a : Part) where
     -- one of more than 4 bytes that shares a byte with a
@@ -264,16 +260,13 @@ module _ (tb : List Line) (text : inTable tb Tag.metadata ≡ true) (f : List �
     abbrev Laters : Bool
     Laters = some (λ e. far (valuePart e)) (laterTexts Es)
 
-    abbrev Head : Bool
-    Head = shares a (part 0 8)
-
-    abbrev Count : Bool
-    Count = shares a (part at 2)
+    abbrev Longer : Bool
+    Longer = some (λ e. inTable tb (e .tag) && far (valuePart e)) Es
 
     abbrev Dir : Bool
     Dir = shares a (part at (dirLen c))
 
-    later-are : some (shares a) (keep wide (laterParts Es)) ≡ Laters
+    later-are : some (shares a) Texts ≡ Laters
     unfolding laterParts
     later-are = some-keep wide (shares a) (laterParts Es) ∙ some-map far (λ e. part (e .start) (e .len)) (laterTexts Es)
 
@@ -283,40 +276,83 @@ module _ (tb : List Line) (text : inTable tb Tag.metadata ≡ true) (f : List �
         some-keep wide (shares a) (build (partAt (column (λ e. e .start) (lineTags tb) Es) (column (λ e. e .len) (lineTags tb) Es)) 0 (length (lineTags tb)))
         ∙ built-are far tb Es
 
-    ends-are : some (shares a) Ends ≡ Head || Dir
-    unfolding some wide
-    ends-are =
-        some-keep wide (shares a) (part 0 8 ∷ part at (dirLen c) ∷ [])
-        ∙ ap (λ (b : Bool). Head || ((b && Dir) || false)) (lt-ltb 4 (dirLen c) (omega arith))
-        ∙ ap (λ (b : Bool). Head || b) (or-false Dir)
-
     -- beside the directory, the longer values are all
-    values-same : some (λ e. inTable tb (e .tag) && far (valuePart e)) Es || Dir ≡ some (listedIs tb (shares a)) Es || Dir
+    values-same : Longer || Dir ≡ some (listedIs tb (shares a)) Es || Dir
     unfolding entries
     values-same =
         some-either (λ e. inTable tb (e .tag) && far (valuePart e)) (listedIs tb (shares a)) Dir (entryAt big at dir) c 0 c (omega arith) (entry-same tb a big at c dir)
 
-    regroup : (l v h k d w x : Bool) → v || l ≡ w → w || d ≡ x || d → k || d ≡ d → l || (v || (h || d)) ≡ h || (k || (d || x))
-    regroup l v h k true w x p q r = rw (or-true h, or-true v, or-true l, or-true k, or-true h)
-    regroup l v true k false w x p q r = rw (or-true v, or-true l)
-    regroup l v false k false w x p q r =
-        let z : k ≡ false = sym (or-false k) ∙ r in
-        rw (z, or-false v) (or-comm l v ∙ p ∙ sym (or-false w) ∙ q ∙ or-false x)
+    -- a place shares a byte with the directory's list exactly where it does with the directory or with a longer value of the table's tags
+    list-is : some (shares a) Known ≡ Longer || Dir
+    unfolding some
+    list-is =
+        ap (λ (v : Bool). shares a (part at 2) || (Dir || v)) (some-values tb (shares a) f Es)
+        ∙ regroup (shares a (part at 2)) Dir (some (listedIs tb (shares a)) Es) (within a at 2 at (dirLen c) (omega arith) (omega arith))
+        ∙ sym values-same
+      where
+        regroup : (k d x : Bool) → k || d ≡ d → k || (d || x) ≡ x || d
+        regroup true true x h = sym (or-true x)
+        regroup true false x h = absurd (false≢true (sym h))
+        regroup false d x h = or-comm d x
 
-    -- a place shares a byte with them exactly where it shares one with the full reading list
-    pub columns-list : some (shares a) Parts ≡ some (shares a) (fullList tb at c (map (hold tb f) Es))
-    unfolding fullList some wide
-    columns-list =
-        some-append (shares a) (keep wide (laterParts Es)) (Own ++ Ends)
-        ∙ ap₂ (λ (l v : Bool). l || v) later-are (some-append (shares a) Own Ends ∙ ap₂ (λ (o e : Bool). o || e) own-are ends-are)
-        ∙ regroup Laters Firsts Head Count Dir _ _ (sym (ap (λ (b : Bool). Firsts || (b && Laters)) text) ∙ values-are far tb refl Es kept6) values-same
-        (within a at 2 at (dirLen c) (omega arith) (omega arith))
-        ∙ ap (λ (v : Bool). Head || (Count || (Dir || v))) (sym (some-values tb (shares a) f Es))
+    -- with 50909 in the table these are in the columns and in the entries of 50909 behind the first
+    pub list-with : inTable tb Tag.metadata ≡ true → some (shares a) Known ≡ some (shares a) (Texts ++ Own) || Dir
+    unfolding wide
+    list-with text =
+        list-is
+        ∙ ap (λ (b : Bool). b || Dir)
+        (sym (values-are far tb refl Es kept6)
+        ∙ ap (λ (b : Bool). Firsts || (b && Laters)) text
+        ∙ or-comm Firsts Laters
+        ∙ sym (some-append (shares a) Texts Own ∙ ap₂ (λ (l o : Bool). l || o) later-are own-are))
+
+    -- and without it in the columns alone
+    pub list-without : inTable tb Tag.metadata ≡ false → some (shares a) Known ≡ some (shares a) Own || Dir
+    unfolding wide
+    list-without text =
+        list-is
+        ∙ ap (λ (b : Bool). b || Dir)
+        (sym (values-are far tb refl Es kept6)
+        ∙ ap (λ (b : Bool). Firsts || (b && Laters)) text
+        ∙ or-false Firsts
+        ∙ sym own-are)
+
+-- ---- the full list of a file, by a table with 50909
+
+module _ (tb : List Line) (text : inTable tb Tag.metadata ≡ true) (f : List ℕ) (big : Bool) (at c : ℕ) (dir : List ℕ) (kept6 : rule6 (entries big at c dir) ≡ kept) where
+  -- the head and the directory
+  abbrev Ends : List Part
+  Ends = keep wide (part 0 8 ∷ part at (dirLen c) ∷ [])
+
+  abbrev Parts : List Part
+  Parts = Texts tb f big at c dir kept6 ++ (Own tb f big at c dir kept6 ++ Ends)
+
+  ends-are : (a : Part) → some (shares a) Ends ≡ shares a (part 0 8) || shares a (part at (dirLen c))
+  unfolding some wide
+  ends-are a =
+      some-keep wide (shares a) (part 0 8 ∷ part at (dirLen c) ∷ [])
+      ∙ ap (λ (b : Bool). shares a (part 0 8) || ((b && shares a (part at (dirLen c))) || false)) (lt-ltb 4 (dirLen c) (omega arith))
+      ∙ ap (λ (b : Bool). shares a (part 0 8) || b) (or-false (shares a (part at (dirLen c))))
+
+  -- a place shares a byte with these parts exactly where it shares one with the full reading list
+  columns-list : (a : Part) → some (shares a) Parts ≡ some (shares a) (fullList tb at c (map (hold tb f) (Es tb f big at c dir kept6)))
+  unfolding fullList some
+  columns-list a =
+      ap (some (shares a)) (sym (append-assoc (Texts tb f big at c dir kept6) (Own tb f big at c dir kept6) Ends))
+      ∙ some-append (shares a) (Texts tb f big at c dir kept6 ++ Own tb f big at c dir kept6) Ends
+      ∙ ap (λ (b : Bool). some (shares a) (Texts tb f big at c dir kept6 ++ Own tb f big at c dir kept6) || b) (ends-are a)
+      ∙ swap (some (shares a) (Texts tb f big at c dir kept6 ++ Own tb f big at c dir kept6)) (shares a (part 0 8)) (shares a (part at (dirLen c)))
+      ∙ ap (λ (b : Bool). shares a (part 0 8) || b) (sym (list-with tb f big at c dir kept6 a text))
+    where
+      swap : (x y z : Bool) → x || (y || z) ≡ y || (x || z)
+      swap true y z = sym (or-true y)
+      swap false y z = refl
 
   -- so rules 13 and 14 over them are those over the list
   pub columns-judged : (n : ℕ) (ss : List Piece)
-      → placesJudged n Parts ss ≡ first (13 ▸ rule13 n ss ∷ 14 ▸ rule14 (fullList tb at c (map (hold tb f) Es)) ss ∷ [])
+      → placesJudged n Parts ss ≡ first (13 ▸ rule13 n ss ∷ 14 ▸ rule14 (fullList tb at c (map (hold tb f) (Es tb f big at c dir kept6))) ss ∷ [])
   unfolding placesJudged rule14 touches
   columns-judged n ss =
       ap (λ (o : Outcome). first (13 ▸ rule13 n ss ∷ 14 ▸ o ∷ []))
-      (first-same (touches Parts) (touches (fullList tb at c (map (hold tb f) Es))) (λ s. s .index) ss noPiece (λ i l. columns-list (getD ss i noPiece .place)))
+      (first-same (touches Parts) (touches (fullList tb at c (map (hold tb f) (Es tb f big at c dir kept6)))) (λ s. s .index) ss noPiece
+      (λ i l. columns-list (getD ss i noPiece .place)))

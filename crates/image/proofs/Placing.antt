@@ -2,35 +2,39 @@
 -- that two slots name are the offsets and the byte counts of the pieces. Assumes nothing.
 use Prim.Native.Nat.{ℕ, zero, suc, _+_, _*_, _≤_, _<_, zero-le, suc-le-suc}
 use mathlib.Core.Path.{_≡_, refl, sym, ap, _∙_, subst}
-use mathlib.Core.Bool.{Bool, true, false, cond, not, _&&_, _||_, false≢true}
+use mathlib.Core.Bool.{Bool, true, false, cond, not, _&&_, _||_}
 use mathlib.Core.List.{List, [], _∷_, _++_, map}
-use native.Mathlib.Nat.{one-mul, mul-le-mul}
+use native.Mathlib.Nat.{one-mul}
 use native.Mathlib.Omega.{arith}
 use lib.Dec.{eqb, leb, ltb, lit<}
-use lib.ListN.{length, getD}
+use lib.ListN.{length, getD, length-map}
 use borrow.Author.Tests.{eqb-true, le-ltb, ltb-true, lt-leb, not-true, not-false}
 use Rattle.order.specs.Width.{width}
 use Rattle.paper.specs.Bytes.{run, num, build}
 use Rattle.paper.specs.Tests.{all, some, keep}
 use Rattle.paper.proofs.Laws.{and-eq, or-same, or-false}
 use Rattle.paper.specs.Layout.{dirLen, sizeOf, startOf, entryOf}
-use Rattle.paper.specs.Tags.{Held, table, inTable, fitsLine, find, tiled, offsetsTag, byteCountsTag, pieceCount}
+use Rattle.paper.specs.Tags.{Line, Held, named, table, inTable, fitsLine, find, has, tiled, offsetsTag, byteCountsTag, pieceCount, rule10}
+use Rattle.paper.proofs.Bounds.{table-named}
 use Rattle.paper.specs.Pieces.{part, placesOf, pieces}
+use Rattle.paper.specs.declared.Outcome.the-variants.{Kept as kept}
 use Rattle.paper.specs.declared.Part.{Part}
 use Rattle.paper.specs.declared.Entry.{Entry}
 use Rattle.paper.specs.Judge.{View, piecesOf, fullOf, pieceRules}
+use Rattle.paper.proofs.Bounds.{table-named}
 use Rattle.layout.specs.Repeats.{entriesFrom}
 use Rattle.layout.specs.declared.Further.{Further}
 use Rattle.tags.specs.Index
 use Rattle.tags.specs.Slots.{lineAt, tagAt, offsetsSlot, byteCountsSlot}
-use Rattle.layout.proofs.Turns.{Long, long}
+use Rattle.layout.proofs.Turns.{long}
 use Rattle.lines.specs.Lined.{lineTags}
-use Rattle.lines.specs.Ready.{entriesAt, heldAt}
-use Rattle.lines.proofs.Slots.{Slot}
+use Rattle.lines.specs.Ready.{entriesAt, heldAt, Ready, Behind}
+use Rattle.lines.proofs.Slots.{slot}
 use Rattle.tags.specs.Tagging.{viewOf}
 use Rattle.tags.proofs.Slots.{slot-at, later-fit}
 use Rattle.tags.proofs.Answers.{later-holds, later-lent}
-use Rattle.tags.proofs.Rules.{lined}
+use Rattle.tags.proofs.Rules.{Lined, lined}
+use Rattle.tags.proofs.Fetched.{short-len}
 use Rattle.tags.proofs.Accepted.{Accepted, accepted, PieceColumn}
 use Rattle.pieces.specs.Gaps.{Addable, partAt, wide, partsOf, namedAt, namedParts, placesJudged, placedOf}
 use Rattle.pieces.specs.Spans.{noSpan, spanOf, placed}
@@ -123,6 +127,30 @@ unfolding entriesFrom namedParts
 named-are big start many s is h =
     byte-parts big start s 0 many (ap (some (λ e. not (fitsLine (lineAt Index.metadata) e))) is ∙ h) ∙ ap (λ (xs : List Entry). keep wide (map valuePart xs)) is
 
+-- the further entries of 50909 are BYTEs, so that the parts which they name are those of their values
+pub later-named : {f : List ℕ} {big : Bool} {at c : ℕ} {typs counts starts lens : List ℕ} {r : Further} → Ready table f big at c typs counts starts lens
+    → Behind f big at c r → rule10 table (heldAt table f big at c) ≡ kept
+    → namedParts big (run f (r .start) (12 * r .many)) (r .many) ≡ keep wide (laterParts (entriesAt f big at c))
+unfolding laterParts entriesAt
+later-named {f} {big} {at} {c} {r = r} k w ten =
+    let h = later-holds k w in
+    named-are big (r .start) (r .many) (run f (r .start) (12 * r .many)) (h .are) (later-fit f big at c ten)
+
+-- the numbers of the columns lie in the file
+pub columns-addable : {tb : List Line} {f : List ℕ} {big : Bool} {at c : ℕ} {typs counts starts lens : List ℕ} → Ready tb f big at c typs counts starts lens
+    → all named tb ≡ true → Addable starts × Addable lens
+unfolding lineTags
+columns-addable {tb} {f} {starts = starts} {lens} k names =
+    let l = long (k .columns) in
+    let m : length (map (λ (x : Line). x .tag) tb) ≡ length tb = length-map tb (λ (x : Line). x .tag) in
+    (addable starts (λ j h. low j (omega (arith, h, l .starts-long, m)) .0), addable lens (λ j h. low j (omega (arith, h, l .lens-long, m)) .1))
+  where
+    low : (j : ℕ) → j < length tb → (getD starts j 0 < 68719476736) × (getD lens j 0 < 68719476736)
+    low j h =
+        let w = slot k names j h .within in
+        let n = k .size in
+        (omega arith, omega arith)
+
 module _ {f : List ℕ} {big : Bool} {at c : ℕ} {t : Bool} {typs counts starts lens : List ℕ} {r : Further} (p : Fits f big at c t typs counts starts lens r) where
   abbrev Looked : View
   Looked = viewOf table f big at c
@@ -138,30 +166,14 @@ module _ {f : List ℕ} {big : Bool} {at c : ℕ} {t : Bool} {typs counts starts
 
   -- a tag with one SHORT or LONG has its value in its entry
   short-slot : (k : ℕ) → k < Index.many → sizeOf (lineAt k .type) ≤ 4 → sizeOf (lineAt k .other) ≤ 4 → lineAt k .most ≡ 1 → getD lens k 0 ≤ 4
-  short-slot k h a b m = go (eqb (getD starts k 0) 0) refl
+  unfolding lineAt tagAt table
+  short-slot k h a b m = short-len (slot-at (p .passed .ready) k h) one a b
     where
-      Here : Slot f (heldAt table f big at c) typs counts starts lens (tagAt k) k
-      Here = slot-at (p .passed .ready) k h
+      Upto : ℕ → Type 0
+      Upto n = Lined (heldAt table f big at c) (tagAt k) (lineAt k .type) (lineAt k .other) (lineAt k .least) n
 
-      go : (t : Bool) → eqb (getD starts k 0) 0 ≡ t → getD lens k 0 ≤ 4
-      go true e = let z = Here .none (eqb-true _ _ e) in omega arith
-      go false e =
-          let l = lined (heldAt table f big at c) (told .ten) k h (Here .present ∙ ap not e) in
-          let n : getD counts k 0 ≤ 1 = let x = l .high in let y = Here .count in omega arith in
-          let w : sizeOf (getD typs k 0) ≤ 4 = subst (λ (x : ℕ). sizeOf x ≤ 4) (Here .typ) (kind (l .kind)) in
-          let u = mul-le-mul {n₁ = sizeOf (getD typs k 0)} {m₁ = getD counts k 0} {n₂ = 4} {m₂ = 1} w n in
-          let v = Here .size in
-          omega arith
-        where
-          kind : eqb (find (tagAt k) (heldAt table f big at c) .entry .typ) (lineAt k .type) || eqb (find (tagAt k) (heldAt table f big at c) .entry .typ) (lineAt k .other) ≡ true
-              → sizeOf (find (tagAt k) (heldAt table f big at c) .entry .typ) ≤ 4
-          kind o = pick _ _ o refl refl
-            where
-              pick : (x y : Bool) → x || y ≡ true → eqb (find (tagAt k) (heldAt table f big at c) .entry .typ) (lineAt k .type) ≡ x
-                  → eqb (find (tagAt k) (heldAt table f big at c) .entry .typ) (lineAt k .other) ≡ y → sizeOf (find (tagAt k) (heldAt table f big at c) .entry .typ) ≤ 4
-              pick true y z q r = subst (λ (x : ℕ). sizeOf x ≤ 4) (sym (eqb-true _ _ q)) a
-              pick false true z q r = subst (λ (x : ℕ). sizeOf x ≤ 4) (sym (eqb-true _ _ r)) b
-              pick false false z q r = absurd (false≢true z)
+      one : has (tagAt k) (heldAt table f big at c) ≡ true → Upto 1
+      one q = subst (λ (n : ℕ). Upto n) m (lined table table-named (heldAt table f big at c) (told .ten) k h q)
 
   -- so the parts that count are among the outer ones
   abbrev Reach : ℕ → Part
@@ -238,30 +250,11 @@ module _ {f : List ℕ} {big : Bool} {at c : ℕ} {t : Bool} {typs counts starts
       let w = p .passed .ready .whole in
       omega arith
 
-  -- the numbers of the columns lie in the file
-  low-at : (k : ℕ) → k < Index.many → (getD starts k 0 < 68719476736) × (getD lens k 0 < 68719476736)
-  low-at k h = let w = slot-within k h in let n = p .passed .ready .size in (omega arith, omega arith)
+  lent-addable : Addable starts × Addable lens
+  lent-addable = columns-addable (p .passed .ready) table-named
 
-  twenty-one : Long (lineTags table) typs counts starts lens
-  twenty-one = long (p .passed .ready .columns)
-
-  starts-addable : Addable starts
-  unfolding lineTags table
-  starts-addable = addable starts (λ k h. low-at k (omega (arith, h, twenty-one .starts-long)) .0)
-
-  lens-addable : Addable lens
-  unfolding lineTags table
-  lens-addable = addable lens (λ k h. low-at k (omega (arith, h, twenty-one .lens-long)) .1)
-
-  -- the further entries of 50909 are BYTEs, so that the parts which they name are those of their values
   abbrev Front : List Part
   Front = keep wide (laterParts (entriesAt f big at c))
-
-  later-are : namedParts big (run f (r .start) (12 * r .many)) (r .many) ≡ Front
-  unfolding laterParts entriesAt
-  later-are =
-      let h = later-holds (p .passed .ready) (p .passed .behind) in
-      named-are big (r .start) (r .many) (run f (r .start) (12 * r .many)) (h .are) (later-fit f big at c (told .ten))
 
   -- the pieces, whose offsets have slot x and byte counts slot y
   module _ {x y : ℕ} (is-x : x ≡ offsetsSlot t) (is-y : y ≡ byteCountsSlot t) where
@@ -323,8 +316,8 @@ module _ {f : List ℕ} {big : Bool} {at c : ℕ} {t : Bool} {typs counts starts
             byte-counts-room,
             outer-length starts x y 0 at,
             outer-length lens x y 8 (dirLen c),
-            outer-addable starts x y 0 at starts-addable (lit< tt) place-low,
-            outer-addable lens x y 8 (dirLen c) lens-addable (lit< tt) length-low,
+            outer-addable starts x y 0 at (lent-addable .0) (lit< tt) place-low,
+            outer-addable lens x y 8 (dirLen c) (lent-addable .1) (lit< tt) length-low,
             file-eight,
             p .passed .ready .size,
             later-lent (p .passed .ready) (p .passed .behind) is-f .0,
@@ -335,7 +328,7 @@ module _ {f : List ℕ} {big : Bool} {at c : ℕ} {t : Bool} {typs counts starts
       unfolding piecesJudged pieceRules fullOf viewOf entriesAt heldAt lineTags table inTable some
       verdict-seen =
           let k = p .passed .ready in
-          let named : namedParts big fs (r .many) ≡ keep wide (laterParts (entriesAt f big at c)) = ap (λ (s : List ℕ). namedParts big s (r .many)) is-f ∙ later-are in
+          let named : namedParts big fs (r .many) ≡ Front = ap (λ (s : List ℕ). namedParts big s (r .many)) is-f ∙ later-named k (p .passed .behind) (told .ten) in
           (λ i. placesJudged (length f) (named i ++ partsOf (is-s i) (is-l i) 12) (placesOf big (Wide x) (is-o i) (Wide y) (is-b i) (is-many .0 i)))
           ∙ (λ i. placesJudged (length f) (Front ++ outer-parts i) (places-are i))
           ∙ (λ i. placesJudged (length f) (Front ++ (partsOf (k .columns .starts-are i) (k .columns .lens-are i) Index.many ++ keep wide Ends)) (piecesOf Looked))

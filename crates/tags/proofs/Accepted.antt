@@ -15,23 +15,25 @@ use Rattle.paper.specs.declared.Outcome.the-variants.{Kept as kept}
 use Rattle.paper.specs.Tests.{all, some}
 use Rattle.paper.specs.Layout.{sizeOf}
 use Rattle.paper.specs.Tag
-use Rattle.paper.specs.Tags.{table, Held, has, countOf, valueOf, tiled, offsetsTag, byteCountsTag, pieceCount, rule27, rule9, rule10, rule11, rule12}
+use Rattle.paper.specs.Tags.{Line, Values, pictureLines, imageValues, table, named, Held, has, countOf, valueOf, tiled, offsetsTag, byteCountsTag, pieceCount}
+use Rattle.paper.specs.Tags.{rule27, rule9, rule10, rule11, rule12}
 use Rattle.paper.specs.Judge.{viewAt, entriesIn, dirRun, countIn}
 use Rattle.paper.proofs.Laws.{run-length-in, or-same}
 use Rattle.paper.proofs.First.{kept-first}
 use Rattle.paper.proofs.Kept.{among}
+use Rattle.paper.proofs.Bounds.{noLine, table-named}
 use Rattle.tags.specs.Index
 use Rattle.tags.specs.Slots.{lineAt, tagAt, offsetsSlot, byteCountsSlot}
-use Rattle.tags.specs.Numbers.{numbersOf, bitsOf}
+use Rattle.tags.specs.Numbers.{numbersOf, bitsOf, elevenOf}
 use Rattle.paper.specs.Judge.{tableRules}
 use Rattle.lines.specs.Ready.{entriesAt, heldAt, Ready}
-use Rattle.lines.proofs.Slots.{Slot}
+use Rattle.lines.proofs.Slots.{Slot, slot}
 use Rattle.tags.specs.Tagging.{viewOf, taggedBy, taggedOf}
 use Rattle.tags.specs.declared.Tagged.{Tagged}
-use Rattle.tags.proofs.Slots.{slot-at}
-use Rattle.tags.proofs.Rules.{Lined, lined, needed-lined, no-strip, no-tile, eleven-is, counted-is, twelve-is}
+use Rattle.tags.proofs.Slots.{in-front, slot-at}
+use Rattle.tags.proofs.Rules.{Lined, LinedBy, lined, needed-lined, no-strip, no-tile, eleven-is, counted-is, twelve-is}
 use Rattle.tags.proofs.Fetched.{kind-is, typ-is, count-is}
-use Rattle.tags.proofs.Kept.{Allowed, eleven-gives, Agreed, twelve-gives}
+use Rattle.tags.proofs.Kept.{in-range, Allowed, eleven-gives, Agreed, twelve-gives}
 
 -- ---- the view and the rules, as the paper has them
 
@@ -95,7 +97,89 @@ module _ {f : List ℕ} {hs : List Held} {typs counts starts lens : List ℕ} {t
       let l = fixed-len g e in
       record { slot = s; len = l; room = run-length-in f (getD starts k 0) (getD lens k 0) (s .within) ∙ l }
 
+-- ---- the columns of the pieces, in any table of a picture
+
+module _ (v : Values) {others : List Line} (names : all named (pictureLines v others) ≡ true) {f : List ℕ} {big : Bool} {at c : ℕ} {typs counts starts lens : List ℕ}
+    (r : Ready (pictureLines v others) f big at c typs counts starts lens) (mixed : rule27 (heldAt (pictureLines v others) f big at c) ≡ kept) where
+  abbrev Pictured : List Held
+  Pictured = heldAt (pictureLines v others) f big at c
+
+  abbrev Of : ℕ → Line
+  Of k = getD (pictureLines v others) k noLine
+
+  stands : (k : ℕ) → k < Index.pictured → Slot f Pictured typs counts starts lens (Of k .tag) k
+  stands k h = slot r names k (in-front v others k h)
+
+  -- a tag of the other family is absent
+  none-at : (k : ℕ) → k < Index.pictured → has (Of k .tag) Pictured ≡ false → getD lens k 0 ≡ 0
+  none-at k h n = stands k h .none (eqb-true _ 0 (sym (Bool·not-not _) ∙ ap not (sym (stands k h .present) ∙ n)))
+
+  pub no-offsets-column : getD lens (offsetsSlot (not (tiled (heldAt (pictureLines v others) f big at c)))) 0 ≡ 0
+  unfolding offsetsSlot among some
+  no-offsets-column = go (tiled Pictured) refl
+    where
+      go : (b : Bool) → tiled Pictured ≡ b → getD lens (cond (not b) Index.tileOffsets Index.stripOffsets) 0 ≡ 0
+      go true e = none-at Index.stripOffsets (lit< tt) (no-strip Pictured mixed e Tag.stripOffsets refl)
+      go false e = none-at Index.tileOffsets (lit< tt) (no-tile Pictured mixed e Tag.tileOffsets refl)
+
+  pub no-byte-counts-column : getD lens (byteCountsSlot (not (tiled (heldAt (pictureLines v others) f big at c)))) 0 ≡ 0
+  unfolding byteCountsSlot among some
+  no-byte-counts-column = go (tiled Pictured) refl
+    where
+      go : (b : Bool) → tiled Pictured ≡ b → getD lens (cond (not b) Index.tileByteCounts Index.stripByteCounts) 0 ≡ 0
+      go true e = none-at Index.stripByteCounts (lit< tt) (no-strip Pictured mixed e Tag.stripByteCounts refl)
+      go false e = none-at Index.tileByteCounts (lit< tt) (no-tile Pictured mixed e Tag.tileByteCounts refl)
+
+  module _ (nine : rule9 (pictureLines v others) (heldAt (pictureLines v others) f big at c) ≡ kept) (ten : rule10 (pictureLines v others) (heldAt (pictureLines v others) f big at c) ≡ kept)
+      (twelve : rule12 big (heldAt (pictureLines v others) f big at c) ≡ kept) where
+    agreed : Agreed (numbersOf big Pictured) (tiled Pictured) (countOf Tag.bits Pictured) (countOf (offsetsTag Pictured) Pictured) (countOf (byteCountsTag Pictured) Pictured)
+    agreed = twelve-gives (numbersOf big Pictured) (bitsOf big Pictured) (tiled Pictured) _ _ _ (twelve-is big Pictured ∙ twelve)
+
+    -- a needed tag has a type of its line
+    kind-of : (k : ℕ) → k < Index.pictured → Of k .needed (tiled Pictured) ≡ true → eqb (getD typs k 0) (Of k .type) || eqb (getD typs k 0) (Of k .other) ≡ true
+    kind-of k h n = kind-is (stands k h) (needed-lined (pictureLines v others) names Pictured ten nine k (in-front v others k h) n)
+
+    abbrev Column : ℕ → ℕ → Type 0
+    Column t k = PieceColumn f Pictured typs counts starts lens (pieceCount big Pictured) t k
+
+    pub offsets-column : PieceColumn f (heldAt (pictureLines v others) f big at c) typs counts starts lens (pieceCount big (heldAt (pictureLines v others) f big at c))
+        (offsetsTag (heldAt (pictureLines v others) f big at c)) (offsetsSlot (tiled (heldAt (pictureLines v others) f big at c)))
+    unfolding offsetsSlot
+    offsets-column = go (tiled Pictured) refl (agreed .offsets-are ∙ counted-is big Pictured)
+      where
+        go : (b : Bool) → tiled Pictured ≡ b → countOf (cond b Tag.tileOffsets Tag.stripOffsets) Pictured ≡ pieceCount big Pictured
+            → Column (cond b Tag.tileOffsets Tag.stripOffsets) (cond b Index.tileOffsets Index.stripOffsets)
+        go true e q =
+            let typ = getD typs Index.tileOffsets 0 in
+            piece-column (stands Index.tileOffsets (lit< tt)) (rw (or-same (eqb typ 4) (kind-of Index.tileOffsets (lit< tt) e), or-true (eqb typ 3))) q
+        go false e q = piece-column (stands Index.stripOffsets (lit< tt)) (kind-of Index.stripOffsets (lit< tt) (ap not e)) q
+
+    pub byte-counts-column : PieceColumn f (heldAt (pictureLines v others) f big at c) typs counts starts lens (pieceCount big (heldAt (pictureLines v others) f big at c))
+        (byteCountsTag (heldAt (pictureLines v others) f big at c)) (byteCountsSlot (tiled (heldAt (pictureLines v others) f big at c)))
+    unfolding byteCountsSlot
+    byte-counts-column = go (tiled Pictured) refl (agreed .byte-counts-are ∙ counted-is big Pictured)
+      where
+        go : (b : Bool) → tiled Pictured ≡ b → countOf (cond b Tag.tileByteCounts Tag.stripByteCounts) Pictured ≡ pieceCount big Pictured
+            → Column (cond b Tag.tileByteCounts Tag.stripByteCounts) (cond b Index.tileByteCounts Index.stripByteCounts)
+        go true e q = piece-column (stands Index.tileByteCounts (lit< tt)) (kind-of Index.tileByteCounts (lit< tt) e) q
+        go false e q = piece-column (stands Index.stripByteCounts (lit< tt)) (kind-of Index.stripByteCounts (lit< tt) (ap not e)) q
+
 -- ---- verdict 0
+
+-- the five rules are kept, by any table
+pub record RulesKept (tb : List Line) (big : Bool) (hs : List Held) : Type 0 where
+  pub twenty-seven : rule27 hs ≡ kept
+  pub nine : rule9 tb hs ≡ kept
+  pub ten : rule10 tb hs ≡ kept
+  pub eleven : rule11 tb big hs ≡ kept
+  pub twelve : rule12 big hs ≡ kept
+
+pub rules-kept : (tb : List Line) (f : List ℕ) (big : Bool) (at c : ℕ) → first (tableRules (viewOf tb f big at c)) .number ≡ 0
+    → RulesKept tb big (heldAt tb f big at c)
+unfolding tableRules viewOf all
+rules-kept tb f big at c zero =
+    let k = kept-first (tableRules (viewOf tb f big at c)) refl zero in
+    record { twenty-seven = k 0; nine = k 1; ten = k 2; eleven = k 3; twelve = k 4 }
 
 pub record Accepted (f : List ℕ) (big : Bool) (at c : ℕ) (typs counts starts lens : List ℕ) : Type 0 where
   pub twenty-seven : rule27 (heldAt table f big at c) ≡ kept
@@ -132,29 +216,13 @@ module _ (f : List ℕ) (big : Bool) (at c : ℕ) (typs counts starts lens : Lis
   abbrev Told : Tagged
   Told = taggedOf (viewOf table f big at c)
 
+  rules : RulesKept table big Hs
+  unfolding taggedOf taggedBy
+  rules = rules-kept table f big at c zero
+
   rules-zero : first (tableRules (viewOf table f big at c)) .number ≡ 0
   unfolding taggedOf taggedBy
   rules-zero = zero
-
-  mixed-kept : rule27 Hs ≡ kept
-  unfolding tableRules viewOf all
-  mixed-kept = kept-first (tableRules (viewOf table f big at c)) refl rules-zero 0
-
-  nine-kept : rule9 table Hs ≡ kept
-  unfolding tableRules viewOf all
-  nine-kept = kept-first (tableRules (viewOf table f big at c)) refl rules-zero 1
-
-  ten-kept : rule10 table Hs ≡ kept
-  unfolding tableRules viewOf all
-  ten-kept = kept-first (tableRules (viewOf table f big at c)) refl rules-zero 2
-
-  eleven-kept : rule11 table big Hs ≡ kept
-  unfolding tableRules viewOf all
-  eleven-kept = kept-first (tableRules (viewOf table f big at c)) refl rules-zero 3
-
-  twelve-kept : rule12 big Hs ≡ kept
-  unfolding tableRules viewOf all
-  twelve-kept = kept-first (tableRules (viewOf table f big at c)) refl rules-zero 4
 
   sides-are : (Told .width ≡ valueOf big Tag.width Hs) × (Told .length ≡ valueOf big Tag.length Hs)
   unfolding taggedOf taggedBy viewOf
@@ -164,86 +232,41 @@ module _ (f : List ℕ) (big : Bool) (at c : ℕ) (typs counts starts lens : Lis
   unfolding taggedOf taggedBy viewOf
   tiles-are = let e = eq-eqb _ 0 rules-zero in rw e
 
-  allowed : Allowed (numbersOf big Hs)
-  allowed = eleven-gives (numbersOf big Hs) (bitsOf big Hs .allowed) (eleven-is big Hs mixed-kept nine-kept ten-kept ∙ eleven-kept)
-
-  agreed : Agreed (numbersOf big Hs) (tiled Hs) (countOf (offsetsTag Hs) Hs) (countOf (byteCountsTag Hs) Hs)
-  agreed = twelve-gives (numbersOf big Hs) (bitsOf big Hs) (tiled Hs) _ _ _ (twelve-is big Hs ∙ twelve-kept)
+  allowed : Allowed imageValues (numbersOf big Hs) (bitsOf big Hs .allowed)
+  unfolding elevenOf
+  allowed = eleven-gives imageValues (numbersOf big Hs) (bitsOf big Hs .allowed) kept (eleven-is big Hs (rules .twenty-seven) (rules .nine) (rules .ten) ∙ rules .eleven)
 
   here : (k : ℕ) → k < Index.many → Slot f Hs typs counts starts lens (tagAt k) k
   here = slot-at r
 
-  -- a needed tag has a type of its line
-  kind-of : (k : ℕ) → k < Index.many → lineAt k .needed (tiled Hs) ≡ true → eqb (getD typs k 0) (lineAt k .type) || eqb (getD typs k 0) (lineAt k .other) ≡ true
-  kind-of k h n = kind-is (here k h) (needed-lined Hs nine-kept ten-kept k h n)
-
-  abbrev Column : ℕ → ℕ → Type 0
-  Column t k = PieceColumn f Hs typs counts starts lens (pieceCount big Hs) t k
-
-  offsets-column : Column (offsetsTag Hs) (offsetsSlot (tiled Hs))
-  unfolding lineAt tagAt table offsetsSlot
-  offsets-column = go (tiled Hs) refl (agreed .offsets-are ∙ counted-is big Hs)
-    where
-      go : (b : Bool) → tiled Hs ≡ b → countOf (cond b Tag.tileOffsets Tag.stripOffsets) Hs ≡ pieceCount big Hs
-          → Column (cond b Tag.tileOffsets Tag.stripOffsets) (cond b Index.tileOffsets Index.stripOffsets)
-      go true e q =
-          let typ = getD typs Index.tileOffsets 0 in
-          piece-column (here Index.tileOffsets (lit< tt)) (rw (or-same (eqb typ 4) (kind-of Index.tileOffsets (lit< tt) e), or-true (eqb typ 3))) q
-      go false e q = piece-column (here Index.stripOffsets (lit< tt)) (kind-of Index.stripOffsets (lit< tt) (ap not e)) q
-
-  byte-counts-column : Column (byteCountsTag Hs) (byteCountsSlot (tiled Hs))
-  unfolding lineAt tagAt table byteCountsSlot
-  byte-counts-column = go (tiled Hs) refl (agreed .byte-counts-are ∙ counted-is big Hs)
-    where
-      go : (b : Bool) → tiled Hs ≡ b → countOf (cond b Tag.tileByteCounts Tag.stripByteCounts) Hs ≡ pieceCount big Hs
-          → Column (cond b Tag.tileByteCounts Tag.stripByteCounts) (cond b Index.tileByteCounts Index.stripByteCounts)
-      go true e q = piece-column (here Index.tileByteCounts (lit< tt)) (kind-of Index.tileByteCounts (lit< tt) e) q
-      go false e q = piece-column (here Index.stripByteCounts (lit< tt)) (kind-of Index.stripByteCounts (lit< tt) (ap not e)) q
-
-  -- a tag of the other family is absent
-  none-at : (k : ℕ) → k < Index.many → has (tagAt k) Hs ≡ false → getD lens k 0 ≡ 0
-  none-at k h n = here k h .none (eqb-true _ 0 (sym (Bool·not-not _) ∙ ap not (sym (here k h .present) ∙ n)))
-
-  no-offsets-column : getD lens (offsetsSlot (not (tiled Hs))) 0 ≡ 0
-  unfolding lineAt tagAt table offsetsSlot among some
-  no-offsets-column = go (tiled Hs) refl
-    where
-      go : (b : Bool) → tiled Hs ≡ b → getD lens (cond (not b) Index.tileOffsets Index.stripOffsets) 0 ≡ 0
-      go true e = none-at Index.stripOffsets (lit< tt) (no-strip Hs mixed-kept e Tag.stripOffsets refl)
-      go false e = none-at Index.tileOffsets (lit< tt) (no-tile Hs mixed-kept e Tag.tileOffsets refl)
-
-  no-byte-counts-column : getD lens (byteCountsSlot (not (tiled Hs))) 0 ≡ 0
-  unfolding lineAt tagAt table byteCountsSlot among some
-  no-byte-counts-column = go (tiled Hs) refl
-    where
-      go : (b : Bool) → tiled Hs ≡ b → getD lens (cond (not b) Index.tileByteCounts Index.stripByteCounts) 0 ≡ 0
-      go true e = none-at Index.stripByteCounts (lit< tt) (no-strip Hs mixed-kept e Tag.stripByteCounts refl)
-      go false e = none-at Index.tileByteCounts (lit< tt) (no-tile Hs mixed-kept e Tag.tileByteCounts refl)
+  line-of : (k : ℕ) → k < length table → has (getD table k noLine .tag) Hs ≡ true → LinedBy Hs (getD table k noLine)
+  line-of = lined table table-named Hs (rules .ten)
 
   pub accepted : Accepted f big at c typs counts starts lens
   unfolding numbersOf lineAt tagAt table sizeOf
   accepted =
-      let a = allowed in
+      let w = in-range 1 1000000 (valueOf big Tag.width Hs) (allowed .width) in
+      let l = in-range 1 1000000 (valueOf big Tag.length Hs) (allowed .length) in
       record {
-        twenty-seven = mixed-kept;
-        nine = nine-kept;
-        ten = ten-kept;
-        eleven = eleven-kept;
-        twelve = twelve-kept;
+        twenty-seven = rules .twenty-seven;
+        nine = rules .nine;
+        ten = rules .ten;
+        eleven = rules .eleven;
+        twelve = rules .twelve;
         width-is = sides-are .0;
-        width-low = a .width-low;
-        width-high = a .width-high;
+        width-low = w .0;
+        width-high = w .1;
         length-is = sides-are .1;
-        length-low = a .length-low;
-        length-high = a .length-high;
+        length-low = l .0;
+        length-high = l .1;
         tiled-is = tiles-are;
-        offsets = offsets-column;
-        byte-counts = byte-counts-column;
-        no-offsets = no-offsets-column;
-        no-byte-counts = no-byte-counts-column;
-        scale = fixed-column (here Index.scale (lit< tt)) (lined Hs ten-kept Index.scale (lit< tt)) refl;
-        tiepoint = fixed-column (here Index.tiepoint (lit< tt)) (lined Hs ten-kept Index.tiepoint (lit< tt)) refl;
-        matrix = fixed-column (here Index.matrix (lit< tt)) (lined Hs ten-kept Index.matrix (lit< tt)) refl;
+        offsets = offsets-column imageValues table-named r (rules .twenty-seven) (rules .nine) (rules .ten) (rules .twelve);
+        byte-counts = byte-counts-column imageValues table-named r (rules .twenty-seven) (rules .nine) (rules .ten) (rules .twelve);
+        no-offsets = no-offsets-column imageValues table-named r (rules .twenty-seven);
+        no-byte-counts = no-byte-counts-column imageValues table-named r (rules .twenty-seven);
+        scale = fixed-column (here Index.scale (lit< tt)) (line-of Index.scale (lit< tt)) refl;
+        tiepoint = fixed-column (here Index.tiepoint (lit< tt)) (line-of Index.tiepoint (lit< tt)) refl;
+        matrix = fixed-column (here Index.matrix (lit< tt)) (line-of Index.matrix (lit< tt)) refl;
         directory = here Index.keyDirectory (lit< tt);
         doubles = here Index.doubles (lit< tt);
         characters = here Index.characters (lit< tt);

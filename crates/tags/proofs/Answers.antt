@@ -1,9 +1,8 @@
 -- One law for each answer of rules 27 and 9 to 12. Assumes nothing.
-use Prim.Native.Nat.{ℕ, _+_, _-_, _*_, _≤_, _<_}
+use Prim.Native.Nat.{ℕ, _+_, _-_, _*_, _≤_}
 use mathlib.Core.Path.{_≡_, sym, ap, ap₂, _∙_}
-use mathlib.Core.Bool.{Bool, true, false, cond, not, _&&_, _||_}
+use mathlib.Core.Bool.{Bool, true, false, not, _&&_, _||_}
 use mathlib.Core.List.{List, [], _∷_}
-use native.Mathlib.Nat.{add-sub-cancel-left}
 use native.Mathlib.Omega.{arith}
 use lib.Dec.{lit<}
 use lib.ListN.{length, getD}
@@ -12,8 +11,9 @@ use Rattle.paper.specs.Outcome.{breaks, firstOf, first, verdict}
 use Rattle.paper.specs.Tests.{some}
 use Rattle.paper.specs.declared.Outcome.{Outcome}
 use Rattle.paper.specs.declared.Outcome.the-variants.{Kept as kept, Broken as broken}
-use Rattle.paper.specs.Tags.{table, Held, countOf, tiled, offsetsTag, byteCountsTag, fitsLine, rule27, rule9, rule10, rule11, rule12}
+use Rattle.paper.specs.Tags.{imageValues, table, Held, tiled, fitsLine, rule27, rule9, rule10, rule11, rule12}
 use Rattle.paper.proofs.Laws.{run-length-in}
+use Rattle.paper.proofs.Bounds.{table-named}
 use Rattle.tags.specs.Index
 use Rattle.tags.specs.declared.Numbers.{Numbers}
 use Rattle.tags.specs.declared.Bits.{Bits}
@@ -22,7 +22,7 @@ use Rattle.lines.specs.Rows.{nineOf, tenOf, someMisfit}
 use Rattle.lines.specs.Lined.{says, Lined}
 use Rattle.lines.specs.Ready.{entriesAt, heldAt, Ready, Behind}
 use Rattle.lines.proofs.Ruled.{nine-is, ten-is, later-misfits}
-use Rattle.tags.specs.Slots.{lineAt, tagAt, stripSlots, tileSlots, someAt, offsetsSlot, byteCountsSlot}
+use Rattle.tags.specs.Slots.{lineAt, stripSlots, tileSlots, someAt, offsetsSlot, byteCountsSlot}
 use Rattle.tags.specs.Numbers.{numbersOf, bitsOf, bitsIn, numbersIn, FourBytes, elevenOf, Countable, twelveOf}
 use Rattle.paper.specs.Judge.{tableRules}
 use Rattle.paper.specs.Tag
@@ -30,10 +30,10 @@ use Rattle.layout.specs.Repeats.{laterTexts}
 use Rattle.layout.specs.declared.Further.{Further}
 use Rattle.layout.proofs.Repeats.{FurtherHolds, further-holds}
 use Rattle.tags.specs.Tagging.{viewOf, taggedBy, taggedOf, Fitting}
-use Rattle.tags.proofs.Slots.{strips-are, tiles-are}
+use Rattle.tags.proofs.Slots.{tiles-are, mixed-is}
 use Rattle.tags.proofs.Rules.{eleven-is, twelve-is}
-use Rattle.tags.proofs.Fetched.{slotAt, numbers-are, bits-are}
-use Rattle.tags.proofs.Kept.{eleven-gives}
+use Rattle.tags.proofs.Fetched.{numbers-are, bits-same, count-at, offsets-same, byte-counts-same}
+use Rattle.tags.proofs.Kept.{in-range, eleven-gives}
 
 abbrev pub refusedAs : ℕ → ℕ → Tagged
 refusedAs k p = record { verdict = verdict k p; width = 0; length = 0; tiled = false }
@@ -56,13 +56,12 @@ later-lent {f} {g = g} r w e =
 module _ {f : List ℕ} {big : Bool} {at c : ℕ} {typs counts starts lens : List ℕ} (r : Ready table f big at c typs counts starts lens)
     {s t m : Bool} (is-s : s ≡ someAt stripSlots starts) (is-t : t ≡ someAt tileSlots starts) (is-m : m ≡ (s && t) || (not s && not t)) where
   t-same : t ≡ tiled (heldAt table f big at c)
-  t-same = is-t ∙ tiles-are r
+  unfolding table
+  t-same = is-t ∙ tiles-are imageValues table-named r
 
   mixed-same : rule27 (heldAt table f big at c) ≡ breaks m 0
-  unfolding rule27
-  mixed-same =
-      let s-same = is-s ∙ strips-are r in
-      sym (ap (λ (x : Bool). breaks x 0) (is-m ∙ ap₂ (λ (x y : Bool). (x && y) || (not x && not y)) s-same t-same))
+  unfolding table
+  mixed-same = mixed-is imageValues table-named r is-s is-t is-m
 
   pub refused-mixed : {x : Tagged} → m ≡ true → x ≡ refusedAs 27 0 → x ≡ taggedOf (viewOf table f big at c)
   unfolding taggedOf taggedBy viewOf tableRules first
@@ -105,14 +104,14 @@ module _ {f : List ℕ} {big : Bool} {at c : ℕ} {typs counts starts lens : Lis
         unfolding taggedOf taggedBy viewOf tableRules first firstOf
         refused-later b e = rw (e, mixed-kept, ← nine-same, h, ← ten-same, k, ← misfit-same, b)
 
-        pub fitting : n ≡ false → Fitting f big at c t typs counts starts lens
+        pub fitting : n ≡ false → Fitting table f big at c t typs counts starts lens
         unfolding firstOf
         fitting b =
             let ten : rule10 table (heldAt table f big at c) ≡ kept = sym ten-same ∙ rw (k, ← misfit-same, b) in
             record { ready = r; tiled-is = t-same; twenty-seven = mixed-kept; nine = sym nine-same ∙ h; ten = ten }
 
 -- the numbers and the bits that were fetched, and what rule 11 says of them
-module _ {f : List ℕ} {big : Bool} {at c : ℕ} {t : Bool} {typs counts starts lens : List ℕ} (w : Fitting f big at c t typs counts starts lens)
+module _ {f : List ℕ} {big : Bool} {at c : ℕ} {t : Bool} {typs counts starts lens : List ℕ} (w : Fitting table f big at c t typs counts starts lens)
     {n : Numbers} (is-n : n ≡ numbersIn big f t typs starts) (small : FourBytes n) {j : ℕ} (is-j : j ≡ getD counts Index.bits 0) {b : Bits}
     (is-b : b ≡ bitsIn big j (run f (getD starts Index.bits 0) (getD starts Index.bits 0 + getD lens Index.bits 0 - getD starts Index.bits 0)))
     {o : Outcome} (is-o : o ≡ elevenOf n (b .allowed)) where
@@ -120,13 +119,12 @@ module _ {f : List ℕ} {big : Bool} {at c : ℕ} {t : Bool} {typs counts starts
   Hs = heldAt table f big at c
 
   n-same : n ≡ numbersOf big Hs
-  n-same = is-n ∙ numbers-are w
+  unfolding table
+  n-same = is-n ∙ numbers-are imageValues table-named w
 
   b-same : b ≡ bitsOf big Hs
-  b-same =
-      is-b
-      ∙ ap₂ (λ (k l : ℕ). bitsIn big k (run f (getD starts Index.bits 0) l)) is-j (add-sub-cancel-left (getD starts Index.bits 0) (getD lens Index.bits 0))
-      ∙ bits-are w
+  unfolding table
+  b-same = bits-same imageValues table-named w is-j is-b
 
   eleven-same : o ≡ rule11 table big Hs
   eleven-same =
@@ -140,12 +138,13 @@ module _ {f : List ℕ} {big : Bool} {at c : ℕ} {t : Bool} {typs counts starts
 
   module _ (h : o ≡ kept) where
     pub countable : Countable n
+    unfolding elevenOf
     countable =
-        let a = eleven-gives n (b .allowed) (sym is-o ∙ h) in
+        let a = eleven-gives imageValues n (b .allowed) kept (sym is-o ∙ h) in
         record {
           four-bytes = small;
-          width = a .width-high;
-          length = a .length-high;
+          width = in-range 1 1000000 (n .width) (a .width) .1;
+          length = in-range 1 1000000 (n .length) (a .length) .1;
           rows = a .rows-low;
           tilewidth = a .tilewidth-low;
           tilelength = a .tilelength-low;
@@ -154,31 +153,13 @@ module _ {f : List ℕ} {big : Bool} {at c : ℕ} {t : Bool} {typs counts starts
     -- the counts of the offsets, in slot x, and of the byte counts, in slot y
     module _ {x y : ℕ} (is-x : x ≡ offsetsSlot t) (is-y : y ≡ byteCountsSlot t) {i k l : ℕ} (is-i : i ≡ getD counts Index.bits 0) (is-k : k ≡ getD counts x 0)
         (is-l : l ≡ getD counts y 0) {u : Outcome} (is-u : u ≡ twelveOf n b t i k l) where
-      count-at : (k : ℕ) → k < Index.many → getD counts k 0 ≡ countOf (tagAt k) Hs
-      count-at k l = sym (slotAt w k l .count)
-
-      offsets-same : getD counts x 0 ≡ countOf (offsetsTag Hs) Hs
-      unfolding tagAt lineAt table offsetsSlot
-      offsets-same = ap (λ (k : ℕ). getD counts k 0) is-x ∙ go t (w .tiled-is)
-        where
-          go : (v : Bool) → v ≡ tiled Hs → getD counts (cond v Index.tileOffsets Index.stripOffsets) 0 ≡ countOf (offsetsTag Hs) Hs
-          go true e = rw (← e) (count-at Index.tileOffsets (lit< tt))
-          go false e = rw (← e) (count-at Index.stripOffsets (lit< tt))
-
-      byte-counts-same : getD counts y 0 ≡ countOf (byteCountsTag Hs) Hs
-      unfolding tagAt lineAt table byteCountsSlot
-      byte-counts-same = ap (λ (k : ℕ). getD counts k 0) is-y ∙ go t (w .tiled-is)
-        where
-          go : (v : Bool) → v ≡ tiled Hs → getD counts (cond v Index.tileByteCounts Index.stripByteCounts) 0 ≡ countOf (byteCountsTag Hs) Hs
-          go true e = rw (← e) (count-at Index.tileByteCounts (lit< tt))
-          go false e = rw (← e) (count-at Index.stripByteCounts (lit< tt))
-
       twelve-same : u ≡ rule12 big Hs
-      unfolding tagAt lineAt table
+      unfolding table
       twelve-same =
-          is-u
-          ∙ (λ z. twelveOf (n-same z) (b-same z) (w .tiled-is z) ((is-i ∙ count-at Index.bits (lit< tt)) z) ((is-k ∙ offsets-same) z) ((is-l ∙ byte-counts-same) z))
-          ∙ twelve-is big Hs
+          let bits = is-i ∙ count-at imageValues table-named w Index.bits (lit< tt) in
+          let offsets = is-k ∙ offsets-same imageValues table-named w is-x in
+          let bytecounts = is-l ∙ byte-counts-same imageValues table-named w is-y in
+          is-u ∙ (λ z. twelveOf (n-same z) (b-same z) (w .tiled-is z) (bits z) (offsets z) (bytecounts z)) ∙ twelve-is big Hs
 
       pub refused-twelve : {z : Tagged} {p : ℕ} → u ≡ broken p → z ≡ refusedAs 12 p → z ≡ taggedOf (viewOf table f big at c)
       unfolding taggedOf taggedBy viewOf tableRules first

@@ -1,12 +1,14 @@
--- What the columns of the image's directory say of each tag of its table, and of the two families; and what the table must satisfy. Assumes nothing.
+-- What the columns of a picture's directory say of each tag of its table, and of the two families; and what the image's table must satisfy. Assumes nothing.
 use Prim.Native.Nat.{ℕ, _<_}
-use mathlib.Core.Path.{_≡_, refl, sym, _∙_}
-use mathlib.Core.Bool.{Bool, true, false, not, _&&_}
+use mathlib.Core.Path.{_≡_, refl, sym, ap, ap₂, _∙_}
+use mathlib.Core.Bool.{Bool, true, false, not, _&&_, _||_}
 use mathlib.Core.List.{List}
+use native.Mathlib.Omega.{arith}
 use lib.Dec.{eqb, lit<}
-use lib.ListN.{getD}
-use Rattle.paper.specs.Tests.{some}
-use Rattle.paper.specs.Tags.{table, find, has, stripTags, hasSome, tiled, fitsLine, misfits, rule10}
+use lib.ListN.{length, getD}
+use Rattle.paper.specs.Outcome.{breaks}
+use Rattle.paper.specs.Tests.{all, some}
+use Rattle.paper.specs.Tags.{Line, Values, pictureLines, table, named, Held, find, has, stripTags, hasSome, tiled, fitsLine, misfits, rule27, rule10}
 use Rattle.paper.specs.declared.Entry.{Entry}
 use Rattle.paper.specs.declared.Outcome.the-variants.{Kept as kept}
 use Rattle.paper.specs.Tag
@@ -36,20 +38,44 @@ later-fit f big at c ten =
     ∙ or-false (has Tag.metadata hs && bad (find Tag.metadata hs .entry)) _
     (sym (first-or-later Tag.metadata refl (λ h. bad (h .entry)) hs) ∙ kept-all (misfits hs) _ table noLine ten Index.metadata (lit< tt)) .1
 
-module _ {f : List ℕ} {big : Bool} {at c : ℕ} {typs counts starts lens : List ℕ} (r : Ready table f big at c typs counts starts lens) where
-  -- line k
-  pub slot-at : (k : ℕ) → k < Index.many → Slot f (heldAt table f big at c) typs counts starts lens (tagAt k) k
-  unfolding tagAt lineAt table
-  slot-at k h = slot r table-named k h
+-- ---- the image's table
 
-  present-at : (k : ℕ) → k < Index.many → has (tagAt k) (heldAt table f big at c) ≡ not (eqb (getD starts k 0) 0)
-  present-at k h = slot-at k h .present
+-- line k
+pub slot-at : {f : List ℕ} {big : Bool} {at c : ℕ} {typs counts starts lens : List ℕ} → Ready table f big at c typs counts starts lens → (k : ℕ) → k < Index.many
+    → Slot f (heldAt table f big at c) typs counts starts lens (tagAt k) k
+unfolding tagAt lineAt table
+slot-at r k h = slot r table-named k h
+
+-- the slots of a picture's tags are among them
+pub in-image : {k : ℕ} → k < Index.pictured → k < Index.many
+in-image h = omega arith
+
+-- ---- any table of a picture
+
+-- the lines of a picture's tags stand in front
+pub in-front : (v : Values) (others : List Line) (k : ℕ) → k < Index.pictured → k < length (pictureLines v others)
+in-front v others k h = omega arith
+
+module _ (v : Values) {others : List Line} (names : all named (pictureLines v others) ≡ true) {f : List ℕ} {big : Bool} {at c : ℕ} {typs counts starts lens : List ℕ}
+    (r : Ready (pictureLines v others) f big at c typs counts starts lens) where
+  abbrev Hs : List Held
+  Hs = heldAt (pictureLines v others) f big at c
+
+  present-at : (k : ℕ) → k < Index.pictured → has (getD (pictureLines v others) k noLine .tag) Hs ≡ not (eqb (getD starts k 0) 0)
+  present-at k h = slot r names k (in-front v others k h) .present
 
   -- the families
-  pub strips-are : someAt stripSlots starts ≡ hasSome stripTags (heldAt table f big at c)
-  unfolding someAt hasSome some tagAt lineAt table
+  strips-are : someAt stripSlots starts ≡ hasSome stripTags Hs
+  unfolding someAt hasSome some
   strips-are = rw (present-at Index.stripOffsets (lit< tt), present-at Index.rowsPerStrip (lit< tt), present-at Index.stripByteCounts (lit< tt))
 
-  pub tiles-are : someAt tileSlots starts ≡ tiled (heldAt table f big at c)
-  unfolding someAt hasSome some tagAt lineAt table
+  pub tiles-are : someAt tileSlots starts ≡ tiled (heldAt (pictureLines v others) f big at c)
+  unfolding someAt hasSome some
   tiles-are = rw (present-at Index.tileWidth (lit< tt), present-at Index.tileLength (lit< tt), present-at Index.tileOffsets (lit< tt), present-at Index.tileByteCounts (lit< tt))
+
+  -- and rule 27 of them
+  pub mixed-is : {s t m : Bool} → s ≡ someAt stripSlots starts → t ≡ someAt tileSlots starts → m ≡ (s && t) || (not s && not t)
+      → rule27 (heldAt (pictureLines v others) f big at c) ≡ breaks m 0
+  unfolding rule27
+  mixed-is is-s is-t is-m =
+      sym (ap (λ (x : Bool). breaks x 0) (is-m ∙ ap₂ (λ (x y : Bool). (x && y) || (not x && not y)) (is-s ∙ strips-are) (is-t ∙ tiles-are)))

@@ -13,7 +13,7 @@ use Rattle.paper.specs.declared.Outcome.{Outcome}
 use Rattle.paper.specs.declared.Outcome.the-variants.{Kept as kept, Broken as broken}
 use Rattle.tags.specs.declared.Numbers.{Numbers}
 use Rattle.tags.specs.declared.Bits.{Bits}
-use Rattle.tags.specs.Numbers.{sides, codings, Untiled, elevenOf, countOfPieces, twelveOf}
+use Rattle.tags.specs.Numbers.{sides, codings, Untiled, elevenBy, elevenOf, countOfPieces, twelveOf}
 
 -- ---- rule 11: the first tag with a value that is not allowed
 
@@ -23,63 +23,63 @@ module _ (n : Numbers) (bitsallowed : Bool) where
 
   module _ (a : Bool) (is-a : a ≡ allows sides (n .width)) where
     pub bad-width : not a ≡ true → broken Tag.width ≡ Eleven
-    unfolding elevenOf
+    unfolding elevenOf elevenBy
     bad-width h = rw (← is-a, h)
 
     module _ (ok-a : not a ≡ false) (b : Bool) (is-b : b ≡ allows sides (n .length)) where
       pub bad-length : not b ≡ true → broken Tag.length ≡ Eleven
-      unfolding elevenOf
+      unfolding elevenOf elevenBy
       bad-length h = rw (← is-a, ok-a, ← is-b, h)
 
       module _ (ok-b : not b ≡ false) where
         pub bad-bits : not bitsallowed ≡ true → broken Tag.bits ≡ Eleven
-        unfolding elevenOf
+        unfolding elevenOf elevenBy
         bad-bits h = rw (← is-a, ok-a, ← is-b, ok-b, h)
 
         module _ (ok-c : not bitsallowed ≡ false) (d : Bool) (is-d : d ≡ allows codings (n .compression)) where
           pub bad-coding : not d ≡ true → broken Tag.compression ≡ Eleven
-          unfolding elevenOf
+          unfolding elevenOf elevenBy
           bad-coding h = rw (← is-a, ok-a, ← is-b, ok-b, ok-c, ← is-d, h)
 
           module _ (ok-d : not d ≡ false) (e : Bool) (is-e : e ≡ allows (between 0 3 ∷ []) (n .photometric)) where
             pub bad-light : not e ≡ true → broken Tag.photometric ≡ Eleven
-            unfolding elevenOf
+            unfolding elevenOf elevenBy
             bad-light h = rw (← is-a, ok-a, ← is-b, ok-b, ok-c, ← is-d, ok-d, ← is-e, h)
 
             module _ (ok-e : not e ≡ false) (f : Bool) (is-f : f ≡ allows (between 1 8 ∷ []) (n .samples)) where
               pub bad-samples : not f ≡ true → broken Tag.samples ≡ Eleven
-              unfolding elevenOf
+              unfolding elevenOf elevenBy
               bad-samples h = rw (← is-a, ok-a, ← is-b, ok-b, ok-c, ← is-d, ok-d, ← is-e, ok-e, ← is-f, h)
 
               module _ (ok-f : not f ≡ false) (g : Bool) (is-g : g ≡ allows (between 1 more ∷ []) (n .rows)) where
                 pub bad-rows : not g ≡ true → broken Tag.rowsPerStrip ≡ Eleven
-                unfolding elevenOf
+                unfolding elevenOf elevenBy
                 bad-rows h = rw (← is-a, ok-a, ← is-b, ok-b, ok-c, ← is-d, ok-d, ← is-e, ok-e, ← is-f, ok-f, ← is-g, h)
 
                 module _ (ok-g : not g ≡ false) (k : Bool) (is-k : k ≡ allows (just 1 ∷ []) (n .planar)) where
                   pub bad-planar : not k ≡ true → broken Tag.planar ≡ Eleven
-                  unfolding elevenOf
+                  unfolding elevenOf elevenBy
                   bad-planar h = rw (← is-a, ok-a, ← is-b, ok-b, ok-c, ← is-d, ok-d, ← is-e, ok-e, ← is-f, ok-f, ← is-g, ok-g, ← is-k, h)
 
                   module _ (ok-k : not k ≡ false) where
                     pub none-tiled : (tiled : Bool) → not tiled ≡ true → (tiled ≡ false → Untiled n) → kept ≡ Eleven
-                    unfolding elevenOf sixteens
+                    unfolding elevenOf elevenBy sixteens
                     none-tiled tiled h untiled =
                         let u = untiled (not-true tiled h) in
                         rw (← is-a, ok-a, ← is-b, ok-b, ok-c, ← is-d, ok-d, ← is-e, ok-e, ← is-f, ok-f, ← is-g, ok-g, ← is-k, ok-k, u .width, u .length)
 
                     module _ (l : Bool) (is-l : l ≡ sixteens (n .tilewidth)) where
                       pub bad-tile-width : not l ≡ true → broken Tag.tileWidth ≡ Eleven
-                      unfolding elevenOf
+                      unfolding elevenOf elevenBy
                       bad-tile-width h = rw (← is-a, ok-a, ← is-b, ok-b, ok-c, ← is-d, ok-d, ← is-e, ok-e, ← is-f, ok-f, ← is-g, ok-g, ← is-k, ok-k, ← is-l, h)
 
                       module _ (ok-l : not l ≡ false) (m : Bool) (is-m : m ≡ sixteens (n .tilelength)) where
                         pub bad-tile-length : not m ≡ true → broken Tag.tileLength ≡ Eleven
-                        unfolding elevenOf
+                        unfolding elevenOf elevenBy
                         bad-tile-length h = rw (← is-a, ok-a, ← is-b, ok-b, ok-c, ← is-d, ok-d, ← is-e, ok-e, ← is-f, ok-f, ← is-g, ok-g, ← is-k, ok-k, ← is-l, ok-l, ← is-m, h)
 
                         pub all-allowed : not m ≡ false → kept ≡ Eleven
-                        unfolding elevenOf
+                        unfolding elevenOf elevenBy
                         all-allowed h = rw (← is-a, ok-a, ← is-b, ok-b, ok-c, ← is-d, ok-d, ← is-e, ok-e, ← is-f, ok-f, ← is-g, ok-g, ← is-k, ok-k, ← is-l, ok-l, ← is-m, h)
 
 -- ---- rule 12: the first tag that does not agree with the others

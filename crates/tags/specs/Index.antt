@@ -1,4 +1,5 @@
--- The line of each tag in the image's table, counted from 0, under the tag's name: its slot in the columns. Assumes nothing.
+-- The line of each tag in the image's table, counted from 0, under the tag's name: its slot in the columns. Those of a picture's tags, in front, are the
+-- same in every table of a picture. Assumes nothing.
 use Prim.Native.Nat.{ℕ}
 
 abbrev pub width : ℕ
@@ -42,6 +43,10 @@ tileOffsets = 12
 
 abbrev pub tileByteCounts : ℕ
 tileByteCounts = 13
+
+-- how many tags of a picture there are
+abbrev pub pictured : ℕ
+pictured = 14
 
 abbrev pub scale : ℕ
 scale = 14

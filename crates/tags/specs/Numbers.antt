@@ -12,7 +12,7 @@ use Rattle.paper.specs.declared.Outcome.the-variants.{Kept as kept, Broken as b
 use Rattle.paper.specs.Tests.{all, Range, between, just, allows}
 use Rattle.paper.specs.Layout.{sizeOf}
 use Rattle.paper.specs.Tag
-use Rattle.paper.specs.Tags.{more, sixteens, Held, has, valueOf, valuesOf, tiled, roundedUp}
+use Rattle.paper.specs.Tags.{Values, imageValues, more, sixteens, Held, has, valueOf, valuesOf, tiled, roundedUp}
 use Rattle.tags.specs.Index
 use Rattle.tags.specs.declared.Numbers.{Numbers}
 use Rattle.tags.specs.declared.Bits.{Bits}
@@ -116,18 +116,23 @@ pub record Untiled (n : Numbers) : Type 0 where
   pub width : n .tilewidth ≡ 16
   pub length : n .tilelength ≡ 16
 
-unfoldable pub elevenOf : Numbers → Bool → Outcome
-elevenOf n bitsallowed =
-    cond (not (allows sides (n .width))) (broken Tag.width)
-    (cond (not (allows sides (n .length))) (broken Tag.length)
+-- with the values that this kind of picture may have, whether those of 258 are such, and what is said of the lines behind the picture's
+unfoldable pub elevenBy : Values → Numbers → Bool → Outcome → Outcome
+elevenBy v n bitsallowed rest =
+    cond (not (v .width (n .width))) (broken Tag.width)
+    (cond (not (v .length (n .length))) (broken Tag.length)
     (cond (not bitsallowed) (broken Tag.bits)
     (cond (not (allows codings (n .compression))) (broken Tag.compression)
-    (cond (not (allows (between 0 3 ∷ []) (n .photometric))) (broken Tag.photometric)
-    (cond (not (allows (between 1 8 ∷ []) (n .samples))) (broken Tag.samples)
+    (cond (not (v .photometric (n .photometric))) (broken Tag.photometric)
+    (cond (not (v .samples (n .samples))) (broken Tag.samples)
     (cond (not (allows (between 1 more ∷ []) (n .rows))) (broken Tag.rowsPerStrip)
     (cond (not (allows (just 1 ∷ []) (n .planar))) (broken Tag.planar)
     (cond (not (sixteens (n .tilewidth))) (broken Tag.tileWidth)
-    (cond (not (sixteens (n .tilelength))) (broken Tag.tileLength) kept)))))))))
+    (cond (not (sixteens (n .tilelength))) (broken Tag.tileLength) rest)))))))))
+
+-- the image's other lines allow every value
+unfoldable pub elevenOf : Numbers → Bool → Outcome
+elevenOf n bitsallowed = elevenBy imageValues n bitsallowed kept
 
 -- what rule 11 leaves to be counted with
 pub record Countable (n : Numbers) : Type 0 where

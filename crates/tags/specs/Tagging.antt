@@ -7,7 +7,7 @@ use mathlib.Core.List.{List}
 use lib.ListN.{length}
 use Rattle.paper.specs.Outcome.{first}
 use Rattle.paper.specs.Tag
-use Rattle.paper.specs.Tags.{Line, table, valueOf, tiled, rule27, rule9, rule10}
+use Rattle.paper.specs.Tags.{Line, valueOf, tiled, rule27, rule9, rule10}
 use Rattle.paper.specs.Judge.{View, tableRules}
 use Rattle.paper.specs.Calls.{accepts}
 use Rattle.paper.specs.declared.Outcome.the-variants.{Kept as kept}
@@ -33,10 +33,10 @@ taggedBy w v =
 unfoldable pub taggedOf : View → Tagged
 taggedOf v = taggedBy (first (tableRules v)) v
 
--- the columns are those of the image's directory, rules 27, 9 and 10 are kept, and the picture is in tiles or not
-pub record Fitting (f : List ℕ) (big : Bool) (at c : ℕ) (t : Bool) (typs counts starts lens : List ℕ) : Type 0 where
-  pub ready : Ready table f big at c typs counts starts lens
-  pub tiled-is : t ≡ tiled (heldAt table f big at c)
-  pub twenty-seven : rule27 (heldAt table f big at c) ≡ kept
-  pub nine : rule9 table (heldAt table f big at c) ≡ kept
-  pub ten : rule10 table (heldAt table f big at c) ≡ kept
+-- the columns are those of a directory, by its table rules 27, 9 and 10 are kept, and the picture is in tiles or not
+pub record Fitting (tb : List Line) (f : List ℕ) (big : Bool) (at c : ℕ) (t : Bool) (typs counts starts lens : List ℕ) : Type 0 where
+  pub ready : Ready tb f big at c typs counts starts lens
+  pub tiled-is : t ≡ tiled (heldAt tb f big at c)
+  pub twenty-seven : rule27 (heldAt tb f big at c) ≡ kept
+  pub nine : rule9 tb (heldAt tb f big at c) ≡ kept
+  pub ten : rule10 tb (heldAt tb f big at c) ≡ kept

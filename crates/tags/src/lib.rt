@@ -8,7 +8,7 @@ ghost use lib.ListN.{length};
 ghost use Rattle.paper.specs.Tests.{between, allows};
 ghost use Rattle.paper.specs.Tags.{table, sixteens, roundedUp};
 ghost use Rattle.lines.specs.Ready.{Ready, Behind};
-ghost use Rattle.tags.specs.Index.{many};
+ghost use Rattle.tags.specs.Index.{pictured};
 ghost use Rattle.tags.specs.Slots.{someAt, stripSlots, tileSlots, offsetsSlot, byteCountsSlot};
 ghost use Rattle.tags.specs.Numbers.{depths, codings, bitsIn, shortIn, numberIn, numberIf, Single, SingleIf, Readable, numbersIn, FourBytes, Untiled, elevenOf, Countable, countOfPieces, twelveOf};
 ghost use Rattle.tags.specs.Tagging.{viewOf, taggedOf, Fitting};
@@ -53,7 +53,8 @@ pub struct Tagged {
 // ---- strips or tiles
 
 // Whether a tag of strips is present.
-fn has_strips(starts: &[usize; SLOTS]) -> bool
+pub fn has_strips(starts: &[usize]) -> bool
+    requires { ⌜ pictured ≤ length (now starts) ⌝ }
     ensures { λ r. ⌜ r ≡ someAt stripSlots (now (starts .entry)) ⌝ }
 {
     (starts[table::STRIP_OFFSETS] != 0)
@@ -61,7 +62,8 @@ fn has_strips(starts: &[usize; SLOTS]) -> bool
 }
 
 // Whether a tag of tiles is present.
-fn has_tiles(starts: &[usize; SLOTS]) -> bool
+pub fn has_tiles(starts: &[usize]) -> bool
+    requires { ⌜ pictured ≤ length (now starts) ⌝ }
     ensures { λ r. ⌜ r ≡ someAt tileSlots (now (starts .entry)) ⌝ }
 {
     (starts[table::TILE_WIDTH] != 0)
@@ -70,7 +72,7 @@ fn has_tiles(starts: &[usize; SLOTS]) -> bool
 }
 
 // Rule 27: both families, or neither.
-fn is_mixed(strips: bool, tiles: bool) -> bool
+pub fn is_mixed(strips: bool, tiles: bool) -> bool
     ensures { λ r. ⌜ r ≡ (strips && tiles) || (not strips && not tiles) ⌝ }
 {
     (strips & tiles) | (!strips & !tiles)
@@ -78,7 +80,7 @@ fn is_mixed(strips: bool, tiles: bool) -> bool
 
 // The index in the table of the tag with the offsets of the pieces.
 pub fn offsets_slot(tiled: bool) -> usize
-    ensures { λ r. ⌜ (r ≡ offsetsSlot tiled) × (r < many) ⌝ }
+    ensures { λ r. ⌜ (r ≡ offsetsSlot tiled) × (r < pictured) ⌝ }
 {
     if tiled {
         table::TILE_OFFSETS
@@ -89,7 +91,7 @@ pub fn offsets_slot(tiled: bool) -> usize
 
 // And of the one with their byte counts.
 pub fn byte_counts_slot(tiled: bool) -> usize
-    ensures { λ r. ⌜ (r ≡ byteCountsSlot tiled) × (r < many) ⌝ }
+    ensures { λ r. ⌜ (r ≡ byteCountsSlot tiled) × (r < pictured) ⌝ }
 {
     if tiled {
         table::TILE_BYTE_COUNTS
@@ -101,7 +103,7 @@ pub fn byte_counts_slot(tiled: bool) -> usize
 // ---- the values
 
 // The only value of a tag of type SHORT.
-fn short_at(file: &[u8], big: bool, start: usize) -> usize
+pub fn short_at(file: &[u8], big: bool, start: usize) -> usize
     requires { ⌜ start + 2 ≤ length (now file) ⌝ }
     ensures { λ r. ⌜ (r ≡ shortIn big (now (file .entry)) start) × (r < 65536) ⌝ }
 {
@@ -110,7 +112,7 @@ fn short_at(file: &[u8], big: bool, start: usize) -> usize
 }
 
 // The only value of a tag of type SHORT or LONG.
-fn number_at(file: &[u8], big: bool, typ: u32, start: usize) -> usize
+pub fn number_at(file: &[u8], big: bool, typ: u32, start: usize) -> usize
     requires { ⌜ Single (length (now file)) typ start ⌝ }
     ensures { λ r. ⌜ (r ≡ numberIn big (now (file .entry)) typ start) × (r < 4294967296) ⌝ }
 {
@@ -122,7 +124,7 @@ fn number_at(file: &[u8], big: bool, typ: u32, start: usize) -> usize
 }
 
 // The same of a tag that is asked for, and else `other`.
-fn number_if(asked: bool, file: &[u8], big: bool, typ: u32, start: usize, other: usize) -> usize
+pub fn number_if(asked: bool, file: &[u8], big: bool, typ: u32, start: usize, other: usize) -> usize
     requires { ⌜ SingleIf asked (length (now file)) typ start × (other < 4294967296) ⌝ }
     ensures { λ r. ⌜ (r ≡ numberIf asked big (now (file .entry)) typ start other) × (r < 4294967296) ⌝ }
 {
@@ -192,7 +194,7 @@ fn is_depth(v: usize) -> bool
 }
 
 // What the k values of 258 say, each fetched once.
-fn read_bits(part: &[u8], big: bool, k: usize) -> Bits
+pub fn read_bits(part: &[u8], big: bool, k: usize) -> Bits
     requires { ⌜ (0 < k) × (2 * k ≤ length (now part)) ⌝ }
     ensures { λ r. ⌜ r ≡ bitsIn big k (now (part .entry)) ⌝ }
 {
@@ -216,21 +218,21 @@ fn read_bits(part: &[u8], big: bool, k: usize) -> Bits
 // ---- rules 11 and 12
 
 // Whether a value lies in a range.
-fn is_between(v: usize, low: usize, high: usize) -> bool
+pub fn is_between(v: usize, low: usize, high: usize) -> bool
     ensures { λ r. ⌜ r ≡ allows (between low high ∷ []) v ⌝ }
 {
     (low <= v) & (v <= high)
 }
 
 // Whether a compression is allowed.
-fn is_coding(v: usize) -> bool
+pub fn is_coding(v: usize) -> bool
     ensures { λ r. ⌜ r ≡ allows codings v ⌝ }
 {
     (v == 1) | ((v == 2) | (v == 32773))
 }
 
 // Whether a value is a positive multiple of 16.
-fn is_sixteens(v: usize) -> bool
+pub fn is_sixteens(v: usize) -> bool
     ensures { λ r. ⌜ r ≡ sixteens v ⌝ }
 {
     (0 < v) & (v % 16 == 0)
@@ -278,7 +280,7 @@ fn allowed_values(n: Numbers, bitsallowed: bool, tiled: bool) -> Outcome
 }
 
 // a / b, rounded up.
-fn rounded_up(a: usize, b: usize) -> usize
+pub fn rounded_up(a: usize, b: usize) -> usize
     requires { ⌜ (a ≤ 1000000) × (0 < b) × (b < 4294967296) ⌝ }
     ensures { λ r. ⌜ (r ≡ roundedUp a b) × (r ≤ a) ⌝ }
 {
@@ -359,7 +361,7 @@ fn judge_values(
     starts: &[usize; SLOTS],
     lens: &[usize; SLOTS],
 ) -> Tagged
-    requires { ⌜ Fitting (now file) big at c tiled (now typs) (now counts) (now starts) (now lens) ⌝ }
+    requires { ⌜ Fitting table (now file) big at c tiled (now typs) (now counts) (now starts) (now lens) ⌝ }
     ensures { λ r. ⌜ r ≡ taggedOf (viewOf table (now (file .entry)) big at c) ⌝ }
 {
     let n = read_numbers(file, big, tiled, typs, starts);

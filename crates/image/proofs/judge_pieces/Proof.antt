@@ -1,10 +1,8 @@
 -- `judge_pieces` hands the runs of the pieces and the columns' parts to the pass over the places. Assumes nothing.
 use native.Mathlib.Omega.{arith}
 use borrow.Author.Needs.{needs}
-use mathlib.Core.Path.{ap}
+use Rattle.tags.proofs.Slots.{in-image}
 use Rattle.tags.proofs.Answers.{later-holds}
-use Rattle.pieces.specs.Gaps.{placedOf}
-use Rattle.pieces.specs.declared.Placed.{Placed}
 use Rattle.image.proofs.Placing.{slot-within, places-asked, pieces-seen}
 use Rattle.image.proofs.judge_pieces.Statement.{statement}
 use Rattle.image.proofs.judge_pieces.Tie as tie
@@ -38,7 +36,7 @@ element-copy-out-value-2 : tie.Need-element-copy-out-value-2
 element-copy-out-value-2 c = search needs
 
 value-requires : tie.Need-value-requires
-value-requires c κs = let s = c .before .before in slot-within (begun s .pre) _ (s .before .offsets-slot .ensures .1)
+value-requires c κs = let s = c .before .before in slot-within (begun s .pre) _ (in-image (s .before .offsets-slot .ensures .1))
 
 mul-value-3 : tie.Need-mul-value-3
 mul-value-3 c = search needs
@@ -53,10 +51,10 @@ element-copy-out-value-4 : tie.Need-element-copy-out-value-4
 element-copy-out-value-4 c = search needs
 
 value-requires-2 : tie.Need-value-requires-2
-value-requires-2 c κs = let s = slots (c .before .before) in slot-within (begun s .pre) _ (s .byte-counts-slot .ensures .1)
+value-requires-2 c κs = let s = slots (c .before .before) in slot-within (begun s .pre) _ (in-image (s .byte-counts-slot .ensures .1))
 
 outer-requires : tie.Need-outer-requires
-outer-requires c κs = let s = slots (first-run c) in (s .before .offsets-slot .ensures .1, s .byte-counts-slot .ensures .1)
+outer-requires c κs = let s = slots (first-run c) in (in-image (s .before .offsets-slot .ensures .1), in-image (s .byte-counts-slot .ensures .1))
 
 mul-outer : tie.Need-mul-outer
 mul-outer c = let f = begun (slots (first-run (c .before))) .pre .passed .ready .few in omega arith
@@ -68,7 +66,7 @@ add-outer-2 : tie.Need-add-outer-2
 add-outer-2 c = let f = begun (slots (first-run (c .before))) .pre .passed .ready .few in omega arith
 
 outer-requires-2 : tie.Need-outer-requires-2
-outer-requires-2 c κs = let s = slots (first-run (c .before)) in (s .before .offsets-slot .ensures .1, s .byte-counts-slot .ensures .1)
+outer-requires-2 c κs = let s = slots (first-run (c .before)) in (in-image (s .before .offsets-slot .ensures .1), in-image (s .byte-counts-slot .ensures .1))
 
 mul-value-5 : tie.Need-mul-value-5
 mul-value-5 c =

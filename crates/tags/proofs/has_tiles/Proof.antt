@@ -6,17 +6,17 @@ use Rattle.tags.specs.Slots.{someAt}
 use Rattle.tags.proofs.has_tiles.Statement.{statement}
 use Rattle.tags.proofs.has_tiles.Tie as tie
 
-element-copy-out-result : tie.Need-element-copy-out-result
-element-copy-out-result c = search needs
+shared-slice-read-result : tie.Need-shared-slice-read-result
+shared-slice-read-result c = search needs
 
-element-copy-out-result-2 : tie.Need-element-copy-out-result-2
-element-copy-out-result-2 c = search needs
+shared-slice-read-result-2 : tie.Need-shared-slice-read-result-2
+shared-slice-read-result-2 c = search needs
 
-element-copy-out-result-3 : tie.Need-element-copy-out-result-3
-element-copy-out-result-3 c = search needs
+shared-slice-read-result-3 : tie.Need-shared-slice-read-result-3
+shared-slice-read-result-3 c = search needs
 
-element-copy-out-result-4 : tie.Need-element-copy-out-result-4
-element-copy-out-result-4 c = search needs
+shared-slice-read-result-4 : tie.Need-shared-slice-read-result-4
+shared-slice-read-result-4 c = search needs
 
 returns : tie.Need-returns
 unfolding someAt some
@@ -26,8 +26,8 @@ pub has-tiles-spec : {M : Type 1} → statement M
 has-tiles-spec =
     tie.close
     (tie.spec
-    element-copy-out-result
-    element-copy-out-result-2
-    element-copy-out-result-3
-    element-copy-out-result-4
+    shared-slice-read-result
+    shared-slice-read-result-2
+    shared-slice-read-result-3
+    shared-slice-read-result-4
     returns)

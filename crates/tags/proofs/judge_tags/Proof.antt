@@ -15,7 +15,7 @@ use Rattle.tags.proofs.judge_tags.Tie as tie
 
 -- where the function starts, from behind rule 27, rule 9 and rule 10
 abbrev mixed : tie.Else1 → tie.Start
-mixed c = c .before .before .before .before .before
+mixed c = c .before .before .before .before .before .before .before
 
 abbrev kept9 : tie.After-enum-told → tie.Else1
 kept9 c = c .before .before .before .before .before
@@ -55,7 +55,7 @@ unfolding neededBy says allSay table
 returns-2 c =
     let o = c .before .before .before .before in
     let b = o .before .before .before in
-    refused-nine (mixed b .pre .0) (b .before .before .has-strips .ensures) (b .before .before .before .has-tiles .ensures) (b .before .is-mixed .ensures) (b .if1 .left)
+    refused-nine (mixed b .pre .0) (b .before .before .has-strips .ensures) (b .before .before .before .before .has-tiles .ensures) (b .before .is-mixed .ensures) (b .if1 .left)
     (lined _ refl) (o .needed-tags .ensures) (c .before .before .nine .given .1) (c .refused2 .ensures)
 
 enum-told : tie.Need-enum-told
@@ -79,7 +79,7 @@ returns-3 c =
     let u = c .before .before .before .before in
     let k = u .before .before .before .before .before in
     let b = kept9 k in
-    refused-ten (mixed b .pre .0) (b .before .before .has-strips .ensures) (b .before .before .before .has-tiles .ensures) (b .before .is-mixed .ensures) (b .if1 .left)
+    refused-ten (mixed b .pre .0) (b .before .before .has-strips .ensures) (b .before .before .before .before .has-tiles .ensures) (b .before .is-mixed .ensures) (b .if1 .left)
     (lined _ refl) (k .before .before .needed-tags .ensures) (k .enum-told .given .1) (u .fitting-tags .ensures) (mixed b .pre .1) (c .before .before .ten .given .1) (c .refused3 .ensures)
 
 enum-told-2 : tie.Need-enum-told-2
@@ -117,7 +117,7 @@ returns-4 c =
     let t = v .before .before in
     let k = kept10 t in
     let b = kept9 k in
-    refused-later (mixed b .pre .0) (b .before .before .has-strips .ensures) (b .before .before .before .has-tiles .ensures) (b .before .is-mixed .ensures) (b .if1 .left)
+    refused-later (mixed b .pre .0) (b .before .before .has-strips .ensures) (b .before .before .before .before .has-tiles .ensures) (b .before .is-mixed .ensures) (b .if1 .left)
     (lined _ refl) (k .before .before .needed-tags .ensures) (k .enum-told .given .1) (t .before .before .fitting-tags .ensures) (mixed b .pre .1)
     (t .enum-told2 .given .1) (v .value .ensures) _ refl (m .has-misfit .ensures) (c .before .if2 .taken) (c .refused4 .ensures)
 
@@ -129,7 +129,7 @@ judge-values-requires c κs =
     let t = v .before .before in
     let k = kept10 t in
     let b = kept9 k in
-    fitting (mixed b .pre .0) (b .before .before .has-strips .ensures) (b .before .before .before .has-tiles .ensures) (b .before .is-mixed .ensures) (b .if1 .left)
+    fitting (mixed b .pre .0) (b .before .before .has-strips .ensures) (b .before .before .before .before .has-tiles .ensures) (b .before .is-mixed .ensures) (b .if1 .left)
     (lined _ refl) (k .before .before .needed-tags .ensures) (k .enum-told .given .1) (t .before .before .fitting-tags .ensures) (mixed b .pre .1)
     (t .enum-told2 .given .1) (v .value .ensures) _ refl (m .has-misfit .ensures) (c .if2 .left)
 

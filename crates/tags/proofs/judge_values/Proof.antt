@@ -1,6 +1,8 @@
 -- `judge_values` is rules 11 and 12 where 27, 9 and 10 are kept: the values are fetched as the paper has them (`Fetched`). Assumes nothing.
 use native.Mathlib.Omega.{arith}
 use borrow.Author.Needs.{needs}
+use Rattle.paper.specs.Tags.{imageValues, table}
+use Rattle.paper.proofs.Bounds.{table-named}
 use Rattle.tags.proofs.Fetched.{readable, untiled, bits-some, bits-end, bits-room}
 use Rattle.tags.proofs.Answers.{refused-eleven, countable, refused-twelve, accepted}
 use Rattle.tags.proofs.judge_values.Statement.{statement}
@@ -17,7 +19,8 @@ abbrev kept11 : tie.After-agreeing-tags → tie.After-enum-told
 kept11 c = c .before .before .before .before .before .before .before .before .before
 
 read-numbers-requires : tie.Need-read-numbers-requires
-read-numbers-requires c κs = readable (c .before .pre)
+unfolding table
+read-numbers-requires c κs = readable imageValues table-named (c .before .pre)
 
 element-copy-out-start : tie.Need-element-copy-out-start
 element-copy-out-start c = search needs
@@ -26,7 +29,8 @@ element-copy-out-end : tie.Need-element-copy-out-end
 element-copy-out-end c = search needs
 
 add-end : tie.Need-add-end
-add-end c = let w = begun (c .before .before) .pre in omega (arith, bits-end w, w .ready .size)
+unfolding table
+add-end c = let w = begun (c .before .before) .pre in omega (arith, bits-end imageValues table-named w, w .ready .size)
 
 sub-read-bits : tie.Need-sub-read-bits
 sub-read-bits c = search needs
@@ -35,7 +39,8 @@ part-read-bits-start : tie.Need-part-read-bits-start
 part-read-bits-start c = search needs
 
 part-read-bits-end : tie.Need-part-read-bits-end
-part-read-bits-end c = bits-end (begun (c .before .before) .pre)
+unfolding table
+part-read-bits-end c = bits-end imageValues table-named (begun (c .before .before) .pre)
 
 element-copy-out-counted : tie.Need-element-copy-out-counted
 element-copy-out-counted c = search needs
@@ -44,7 +49,8 @@ counted-requires : tie.Need-counted-requires
 counted-requires c κs = tt
 
 read-bits-requires : tie.Need-read-bits-requires
-read-bits-requires c κs = let w = begun (c .before .before .before .before .before) .pre in rw (c .counted .ensures .0) (bits-some w, bits-room w)
+unfolding table
+read-bits-requires c κs = let w = begun (c .before .before .before .before .before) .pre in rw (c .counted .ensures .0) (bits-some imageValues table-named w, bits-room imageValues table-named w)
 
 allowed-values-requires : tie.Need-allowed-values-requires
 allowed-values-requires c κs = search untiled
