@@ -26,7 +26,8 @@ use Rattle.judge.specs.Examining.{examinedIn, examinedOf}
 use Rattle.paper.specs.declared.Part.{Part}
 use Rattle.judge.specs.declared.Examined.{Examined}
 use Rattle.paper.proofs.Keeps.{rule15-kept, rule17-kept}
-use Rattle.judge.proofs.Seen.{Stands, judged-is, accepted, found, stands}
+use Rattle.image.proofs.Seen.{Stands}
+use Rattle.judge.proofs.Seen.{judged-is, accepted, found, stands}
 use Rattle.block.specs.Sizes.{Sound}
 
 -- a run's part of the file

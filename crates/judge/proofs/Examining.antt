@@ -2,21 +2,21 @@
 -- two found is what the view shows. Assumes nothing.
 use Prim.Native.Nat.{ℕ, _+_, _≤_, _<_}
 use mathlib.Core.Path.{_≡_, refl, sym, ap, _∙_, subst}
-use mathlib.Core.Bool.{Bool, true, false, cond}
+use mathlib.Core.Bool.{Bool, true, false}
 use mathlib.Core.List.{List}
 use native.Mathlib.Omega.{arith}
 use lib.Dec.{eqb, lit<}
 use lib.ListN.{length}
-use borrow.Author.Tests.{eqb-true, eqb-false, eq-eqb, ne-eqb, not-true}
+use borrow.Author.Tests.{eqb-true, eqb-false, eq-eqb, ne-eqb}
 use Rattle.paper.specs.Bytes.{run}
 use Rattle.paper.specs.Tag
 use Rattle.paper.specs.Tags.{table, bytesOf}
 use Rattle.paper.specs.declared.Part.{Part}
-use Rattle.paper.specs.Outcome.{verdict, first, _▷_}
+use Rattle.paper.specs.Outcome.{verdict, first}
 use Rattle.paper.specs.Judge.{view, viewAt, headIn, nextIn, runsOf, surveyOf, surveyRules, imageStage, surveyStage, fileStage, maskStage, verdictOf}
 use Rattle.paper.specs.Judge.{hasMask, maskVerdict, rule28}
 use Rattle.paper.specs.Calls.{judgedIn}
-use Rattle.paper.proofs.First.{chain-zero, chain-stop, verdict-turned}
+use Rattle.paper.proofs.First.{chain-zero, chain-stop}
 use Rattle.paper.proofs.Called.{answer-good, answer-bad}
 use Rattle.paper.specs.declared.Judged.{Judged}
 use Rattle.paper.specs.declared.Verdict.{Verdict}
@@ -26,16 +26,17 @@ use Rattle.keys.specs.Pass.{runs}
 use Rattle.ground.specs.Answer.{Sized}
 use Rattle.image.specs.Imaging.{tagPart, imageIn, noImage, imageBy, imageOf}
 use Rattle.image.specs.declared.Image.{Image}
-use Rattle.mask.specs.Masking.{Before}
+use Rattle.second.specs.Before.{Before}
 use Rattle.survey.specs.Surveying.{surveyedOf, judgedBy}
-use Rattle.judge.specs.Examining.{examinedIn, notExamined, examinedOf}
-use Rattle.judge.proofs.Seen.{Stands, image-stands, sized}
+use Rattle.judge.specs.Examining.{examinedIn, notExamined, examinedOf, ownIn, notOwn, ownOf}
+use Rattle.judge.specs.declared.Own.{Own}
+use Rattle.image.proofs.Seen.{Stands, image-stands}
+use Rattle.judge.proofs.Seen.{sized}
 
--- the file's verdict is w
-refused-by : (f : List ℕ) (w : Verdict) → verdictOf f ≡ w → (w .number ≡ 0 → ⊥) → notExamined w ≡ examinedOf f
-unfolding examinedOf
-refused-by f w e n =
-    sym (answer-bad f examinedIn notExamined (λ z. n (ap (λ (v : Verdict). v .number) (sym e) ∙ z)) ∙ ap notExamined e)
+-- the verdict of the file's own rules is w
+refused-own : (f : List ℕ) (w : Verdict) → fileStage f ≡ w → (w .number ≡ 0 → ⊥) → notOwn w ≡ ownOf f
+unfolding ownOf
+refused-own f w e n = rw (e, ne-eqb (w .number) 0 n)
 
 -- a part that lies in the file, and the bytes that it names
 pub record Names (f : List ℕ) (p : Part) (bytes : List ℕ) : Type 0 where
@@ -60,15 +61,15 @@ module _ (f : List ℕ) {i : Image} (is : i ≡ imageOf f) where
       go false e = absurd (eqb-false _ _ e z)
 
   -- the image refuses
-  pub image-bad : (i .verdict .number ≡ 0 → ⊥) → notExamined (i .verdict) ≡ examinedOf f
-  unfolding imageIn
+  pub image-bad : (i .verdict .number ≡ 0 → ⊥) → notOwn (i .verdict) ≡ ownOf f
+  unfolding imageIn fileStage
   image-bad n = go (eqb (imageStage f .number) 0) refl
     where
-      go : (b : Bool) → eqb (imageStage f .number) 0 ≡ b → notExamined (i .verdict) ≡ examinedOf f
+      go : (b : Bool) → eqb (imageStage f .number) 0 ≡ b → notOwn (i .verdict) ≡ ownOf f
       go true e = absurd (n (ap (λ (x : Image). x .verdict .number) (image-found (eqb-true _ _ e))))
       go false e =
           let w : i .verdict ≡ imageStage f = ap (λ (x : Image). x .verdict) (image-whole (eqb-false _ _ e)) in
-          refused-by f (i .verdict) (verdict-turned f ∙ chain-stop (imageStage f) _ (eqb-false _ _ e) ∙ sym w) n
+          refused-own f (i .verdict) (chain-stop (imageStage f) _ (eqb-false _ _ e) ∙ sym w) n
 
   module _ (z : i .verdict .number ≡ 0) where
     image-zero : imageStage f .number ≡ 0
@@ -129,100 +130,157 @@ module _ (f : List ℕ) {i : Image} (is : i ≡ imageOf f) where
             (runs (here k .big) ((d ∙ directory-named .bytes-are) k) ((x ∙ doubles-named .bytes-are) k) ((ch ∙ characters-named .bytes-are) k))
             ((s ∙ scale-named .bytes-are) k) ((t ∙ tiepoint-named .bytes-are) k) ((m ∙ matrix-named .bytes-are) k) (here k .width) (here k .length))
 
-        verdict-is : verdictOf f ≡ surveyStage (view f) ▷ maskStage f
-        verdict-is = verdict-turned f ∙ chain-zero (imageStage f) _ image-zero
+        own-is : fileStage f ≡ surveyStage (view f)
+        unfolding fileStage
+        own-is = chain-zero (imageStage f) (surveyStage (view f)) image-zero
 
         -- the survey refuses
-        pub survey-bad : (j .verdict .number ≡ 0 → ⊥) → notExamined (j .verdict) ≡ examinedOf f
+        pub survey-bad : (j .verdict .number ≡ 0 → ⊥) → notOwn (j .verdict) ≡ ownOf f
         survey-bad n = go (eqb (surveyStage (view f) .number) 0) refl
           where
-            go : (b : Bool) → eqb (surveyStage (view f) .number) 0 ≡ b → notExamined (j .verdict) ≡ examinedOf f
+            go : (b : Bool) → eqb (surveyStage (view f) .number) 0 ≡ b → notOwn (j .verdict) ≡ ownOf f
             go true e = let w : j .verdict .number ≡ 0 = ap (λ (y : Judged). y .verdict .number) judged-is ∙ rw e in absurd (n w)
             go false e =
                 let w : j .verdict ≡ surveyStage (view f) = ap (λ (y : Judged). y .verdict) judged-is ∙ rw e in
-                refused-by f (j .verdict) (verdict-is ∙ chain-stop (surveyStage (view f)) _ (eqb-false _ _ e) ∙ sym w) n
+                refused-own f (j .verdict) (own-is ∙ sym w) n
 
-        module _ (q : j .verdict .number ≡ 0) where
-          survey-zero : eqb (surveyStage (view f) .number) 0 ≡ true
-          survey-zero = go (eqb (surveyStage (view f) .number) 0) refl
-            where
-              go : (b : Bool) → eqb (surveyStage (view f) .number) 0 ≡ b → eqb (surveyStage (view f) .number) 0 ≡ true
-              go true e = e
-              go false e =
-                  let w : j .verdict ≡ surveyStage (view f) = ap (λ (y : Judged). y .verdict) judged-is ∙ rw e in
-                  absurd (eqb-false _ _ e (ap (λ (v : Verdict). v .number) (sym w) ∙ q))
-
-          -- what the mask is asked with
-          pub own-zero : fileStage f .number ≡ 0
-          unfolding fileStage
-          own-zero = ap (λ (v : Verdict). v .number) (chain-zero (imageStage f) (surveyStage (view f)) image-zero) ∙ eqb-true _ _ survey-zero
-
-          pub mask-before : hasMask f ≡ true → Before f (i .big) (i .at) (i .next) (i .width) (i .length) (i .span)
-          unfolding imageIn hasMask view viewAt
-          mask-before m =
-              record {
-                own = own-zero;
-                big-is = ap (λ (x : Image). x .big) here;
-                at-is = ap (λ (x : Image). x .at) here;
-                next-is = ap (λ (x : Image). x .next) here;
-                width-is = ap (λ (x : Image). x .width) here;
-                length-is = ap (λ (x : Image). x .length) here;
-                span-is = ap (λ (x : Image). x .span) here ∙ rw (not-true _ m);
-              }
-
-          -- the number that the mask's rules gave
-          module _ {m : ℕ} (is-m : m ≡ cond (hasMask f) (maskVerdict f .number) 0) where
-            to-mask : verdictOf f ≡ maskStage f
-            to-mask = verdict-is ∙ chain-zero (surveyStage (view f)) (maskStage f) (eqb-true _ _ survey-zero)
-
-            -- the mask refuses
-            pub mask-bad : (m ≡ 0 → ⊥) → notExamined (verdict 28 m) ≡ examinedOf f
-            unfolding maskStage rule28 first
-            mask-bad n = refused-by f (verdict 28 m) (to-mask ∙ go (hasMask f) refl) (λ z. omega arith)
-              where
-                go : (b : Bool) → hasMask f ≡ b → maskStage f ≡ verdict 28 m
-                go true e =
-                    let w : m ≡ maskVerdict f .number = is-m ∙ rw e in
-                    let y : eqb (maskVerdict f .number) 0 ≡ false = ne-eqb _ 0 (λ z. n (w ∙ z)) in
-                    rw (e, y) (ap (verdict 28) (sym w))
-                go false e = absurd (n (is-m ∙ rw e))
-
-            mask-none : m ≡ 0 → maskStage f .number ≡ 0
-            unfolding maskStage rule28 first
-            mask-none z = go (hasMask f) refl
-              where
-                go : (b : Bool) → hasMask f ≡ b → maskStage f .number ≡ 0
-                go true e =
-                    let w : maskVerdict f .number ≡ 0 = sym (is-m ∙ rw e) ∙ z in
-                    rw (e, eq-eqb _ 0 w)
-                go false e = rw e
-
-            -- none refuses
-            pub all-good : m ≡ 0
+        -- neither refuses
+        pub both-good : j .verdict .number ≡ 0
+            → record {
+              examined =
+                  record {
+                    judged = j;
+                    big = i .big;
+                    width = i .width;
+                    length = i .length;
+                    directory = i .directory;
+                    doubles = i .doubles;
+                    characters = i .characters;
+                    metadata = i .metadata;
+                    further = i .further;
+                  };
+              at = i .at;
+              next = i .next;
+              span = i .span;
+            }
+            ≡ ownOf f
+        unfolding ownOf ownIn examinedIn imageIn judgedIn view viewAt
+        both-good q = go (eqb (surveyStage (view f) .number) 0) refl
+          where
+            go : (b : Bool) → eqb (surveyStage (view f) .number) 0 ≡ b
                 → record {
-                  judged = j;
-                  big = i .big;
-                  width = i .width;
-                  length = i .length;
-                  directory = i .directory;
-                  doubles = i .doubles;
-                  characters = i .characters;
-                  metadata = i .metadata;
-                  further = i .further;
+                  examined =
+                      record {
+                        judged = j;
+                        big = i .big;
+                        width = i .width;
+                        length = i .length;
+                        directory = i .directory;
+                        doubles = i .doubles;
+                        characters = i .characters;
+                        metadata = i .metadata;
+                        further = i .further;
+                      };
+                  at = i .at;
+                  next = i .next;
+                  span = i .span;
                 }
-                ≡ examinedOf f
-            unfolding examinedOf examinedIn imageIn judgedIn
-            all-good z =
-                let w : j ≡ judgedIn (view f) = judged-is ∙ rw survey-zero in
+                ≡ ownOf f
+            go true e =
+                let w : j ≡ judgedIn (view f) = judged-is ∙ rw e in
+                let z : eqb (fileStage f .number) 0 ≡ true = ap (λ (v : Verdict). eqb (v .number) 0) own-is ∙ e in
                 (λ k. record {
-                  judged = w k;
-                  big = here k .big;
-                  width = here k .width;
-                  length = here k .length;
-                  directory = here k .directory;
-                  doubles = here k .doubles;
-                  characters = here k .characters;
-                  metadata = here k .metadata;
-                  further = here k .further;
+                  examined =
+                      record {
+                        judged = w k;
+                        big = here k .big;
+                        width = here k .width;
+                        length = here k .length;
+                        directory = here k .directory;
+                        doubles = here k .doubles;
+                        characters = here k .characters;
+                        metadata = here k .metadata;
+                        further = here k .further;
+                      };
+                  at = here k .at;
+                  next = here k .next;
+                  span = here k .span;
                 })
-                ∙ sym (answer-good f examinedIn notExamined (ap (λ (v : Verdict). v .number) to-mask ∙ mask-none z))
+                ∙ sym (rw z)
+            go false e =
+                let w : j .verdict ≡ surveyStage (view f) = ap (λ (y : Judged). y .verdict) judged-is ∙ rw e in
+                absurd (eqb-false _ _ e (ap (λ (v : Verdict). v .number) (sym w) ∙ q))
+
+-- ---- and then the mask
+
+no-28 : _≡_ {A = ℕ} 28 0 → ⊥
+no-28 z = omega arith
+
+module _ (f : List ℕ) {o : Own} (is : o ≡ ownOf f) where
+  -- the file's own rules refuse
+  own-bad : eqb (fileStage f .number) 0 ≡ false → o ≡ notOwn (fileStage f)
+  unfolding ownOf
+  own-bad e = is ∙ rw e
+
+  own-good : eqb (fileStage f .number) 0 ≡ true → o ≡ ownIn f
+  unfolding ownOf
+  own-good e = is ∙ rw e
+
+  -- there is no mask, or it is not looked at
+  pub alone : o .next ≡ 0 → o .examined ≡ examinedOf f
+  unfolding ownIn examinedOf verdictOf maskStage rule28 hasMask first
+  alone z = go (eqb (fileStage f .number) 0) refl
+    where
+      go : (b : Bool) → eqb (fileStage f .number) 0 ≡ b → o .examined ≡ examinedOf f
+      go true e =
+          let n : nextIn f (headIn f) ≡ 0 = ap (λ (x : Own). x .next) (sym (own-good e)) ∙ z in
+          ap (λ (x : Own). x .examined) (own-good e) ∙ sym (answer-good f examinedIn notExamined (rw (e, eq-eqb (nextIn f (headIn f)) 0 n)))
+      go false e =
+          let v : verdictOf f ≡ fileStage f = rw e in
+          ap (λ (x : Own). x .examined) (own-bad e)
+          ∙ sym (answer-bad f examinedIn notExamined (λ y. eqb-false _ _ e (ap (λ (x : Verdict). x .number) (sym v) ∙ y)) ∙ ap notExamined v)
+
+  module _ (n : o .next ≡ 0 → ⊥) where
+    own-zero : eqb (fileStage f .number) 0 ≡ true
+    own-zero = go (eqb (fileStage f .number) 0) refl
+      where
+        go : (b : Bool) → eqb (fileStage f .number) 0 ≡ b → eqb (fileStage f .number) 0 ≡ true
+        go true e = e
+        go false e = absurd (n (ap (λ (x : Own). x .next) (own-bad e)))
+
+    here-own : o ≡ ownIn f
+    here-own = own-good own-zero
+
+    next-some : eqb (nextIn f (headIn f)) 0 ≡ false
+    unfolding ownIn
+    next-some = ap (λ (x : Own). eqb (x .next) 0) (sym here-own) ∙ ne-eqb (o .next) 0 n
+
+    -- what the mask is asked with
+    pub before : Before f (o .examined .big) (o .at) (o .next) (o .examined .width) (o .examined .length) (o .span)
+    unfolding ownIn examinedIn view viewAt
+    before =
+        record {
+          own = eqb-true _ _ own-zero;
+          big-is = ap (λ (x : Own). x .examined .big) here-own;
+          at-is = ap (λ (x : Own). x .at) here-own;
+          next-is = ap (λ (x : Own). x .next) here-own;
+          width-is = ap (λ (x : Own). x .examined .width) here-own;
+          length-is = ap (λ (x : Own). x .examined .length) here-own;
+          span-is = ap (λ (x : Own). x .span) here-own ∙ rw next-some;
+        }
+
+    module _ {m : ℕ} (is-m : m ≡ maskVerdict f .number) where
+      -- the mask refuses
+      pub mask-bad : (m ≡ 0 → ⊥) → notExamined (verdict 28 m) ≡ examinedOf f
+      unfolding verdictOf maskStage rule28 hasMask first examinedOf
+      mask-bad y =
+          let q : eqb (maskVerdict f .number) 0 ≡ false = ne-eqb _ 0 (λ z. y (is-m ∙ z)) in
+          let v : verdictOf f ≡ verdict 28 m = rw (own-zero, next-some, q) (ap (verdict 28) (sym is-m)) in
+          sym (answer-bad f examinedIn notExamined (λ z. no-28 (ap (λ (x : Verdict). x .number) (sym v) ∙ z)) ∙ ap notExamined v)
+
+      -- it does not
+      pub mask-good : m ≡ 0 → o .examined ≡ examinedOf f
+      unfolding ownIn verdictOf maskStage rule28 hasMask first examinedOf
+      mask-good y =
+          let q : eqb (maskVerdict f .number) 0 ≡ true = eq-eqb _ 0 (sym is-m ∙ y) in
+          ap (λ (x : Own). x .examined) here-own ∙ sym (answer-good f examinedIn notExamined (rw (own-zero, next-some, q)))

@@ -1,40 +1,28 @@
 -- An accepted file: what its image says holds, and what its examination found is what the paper's view of it shows. Assumes nothing.
 use Prim.Native.Nat.{ℕ, _+_, _-_, _≤_, _<_}
-use mathlib.Core.Path.{_≡_, refl, sym, ap, ap₂, _∙_, subst}
+use mathlib.Core.Path.{_≡_, refl, sym, ap, _∙_}
 use mathlib.Core.Bool.{Bool, true, false, cond, not}
 use mathlib.Core.Logic.{_⊎_, inl, inr}
 use mathlib.Core.List.{List}
 use lib.Dec.{eqb}
 use lib.ListN.{length, getD}
-use Rattle.paper.specs.Bytes.{run}
-use Rattle.paper.specs.Tests.{all}
 use Rattle.paper.specs.Outcome.{_▷_}
-use Rattle.paper.specs.Layout.{rule6}
-use Rattle.paper.specs.Tags.{table, Held, find, has, bytesOf}
-use Rattle.paper.specs.Judge.{view, viewAt, headRun, headOf, headIn, countIn, dirRun, entriesIn, fullOf, verdictOf}
-use Rattle.paper.specs.Judge.{headRules, offsetRules, countRules, entryRules, tableRules, pieceRules, pictureRules}
-use Rattle.paper.specs.Judge.{headStage, offsetStage, countStage, entryStage, directoryStage, pictureStage, surveyStage, imageStage, maskStage}
+use Rattle.paper.specs.Tags.{Held, find, has, bytesOf}
+use Rattle.paper.specs.Judge.{view, headIn, countIn, entriesIn, verdictOf}
+use Rattle.paper.specs.Judge.{surveyStage, imageStage, maskStage}
 use Rattle.paper.specs.Calls.{judgedOf, answer}
 use Rattle.paper.proofs.First.{chain-both, verdict-turned}
 use Rattle.image.proofs.Seen.{Stands, Helds, file-size, later-stands, later-inside, held-is, known, image-stands, image-present}
-use Rattle.paper.proofs.Bounds.{rule4-gives, rule5-gives}
 use Rattle.paper.proofs.Called.{answer-good, judged-verdict}
-use Rattle.paper.specs.declared.Outcome.the-variants.{Kept as kept}
 use Rattle.paper.specs.declared.Entry.{Entry}
 use Rattle.paper.specs.declared.Judged.{Judged}
 use Rattle.paper.specs.declared.Verdict.{Verdict}
 use Rattle.paper.specs.Tag
-use Rattle.layout.specs.Columns.{column}
 use Rattle.layout.specs.Repeats.{textCount, furtherOf, laterTexts}
-use Rattle.layout.proofs.Opening.{size-gives}
-use Rattle.layout.proofs.Repeats.{FurtherHolds, further-holds, later-within}
+use Rattle.layout.proofs.Repeats.{FurtherHolds}
 use Rattle.tags.specs.Index
 use Rattle.tags.specs.Slots.{tagAt}
-use Rattle.lines.specs.Lined.{lineTags}
-use Rattle.lines.specs.Ready.{entriesAt, heldAt, Ready}
-use Rattle.tags.specs.Tagging.{viewOf, taggedBy, taggedOf}
-use Rattle.tags.proofs.Slots.{slot-at}
-use Rattle.tags.proofs.Accepted.{view-is, Accepted, accepted as tags-accepted, FixedColumn}
+use Rattle.tags.proofs.Accepted.{FixedColumn}
 use Rattle.ground.specs.Answer.{Holds, Sized}
 use Rattle.judge.specs.Examining.{examinedIn, notExamined, examinedOf}
 use Rattle.judge.specs.declared.Examined.{Examined}

@@ -1,15 +1,19 @@
--- What one examination of a file finds: the judgement, and where the values stand that the other calls hand back. Assumes nothing.
+-- What one examination of a file finds: the judgement, and where the values stand that the other calls hand back; and what it finds by the file's own rules,
+-- before a mask is looked at. Assumes nothing.
 use Prim.Native.Nat.{ℕ}
-use mathlib.Core.Bool.{false}
+use mathlib.Core.Bool.{false, cond}
 use mathlib.Core.List.{List, map}
+use lib.Dec.{eqb}
 use Rattle.paper.specs.Tag
 use Rattle.paper.specs.Tags.{valueOf}
-use Rattle.paper.specs.Judge.{View}
-use Rattle.paper.specs.Calls.{answer, judgedIn, notJudged}
+use Rattle.paper.specs.Judge.{View, headIn, nextIn, view, piecesOf, fileStage}
+use Rattle.paper.specs.Calls.{accepts, answer, judgedIn, notJudged}
 use Rattle.paper.specs.declared.Verdict.{Verdict}
 use Rattle.layout.specs.Repeats.{noFurther, furtherOf}
 use Rattle.image.specs.Imaging.{tagPart, noPart}
+use Rattle.pieces.specs.Spans.{noSpan, spanOf}
 use Rattle.judge.specs.declared.Examined.{Examined}
+use Rattle.judge.specs.declared.Own.{Own}
 
 unfoldable pub examinedIn : View → Examined
 examinedIn w =
@@ -41,3 +45,20 @@ notExamined v =
 
 unfoldable pub examinedOf : List ℕ → Examined
 examinedOf f = answer f examinedIn notExamined
+
+-- ---- by the file's own rules, 1 to 22 and 27
+
+unfoldable pub ownIn : List ℕ → Own
+ownIn f =
+    record {
+      examined = examinedIn (view f);
+      at = headIn f .at;
+      next = nextIn f (headIn f);
+      span = cond (eqb (nextIn f (headIn f)) 0) noSpan (spanOf (piecesOf (view f)));
+    }
+
+abbrev pub notOwn : Verdict → Own
+notOwn v = record { examined = notExamined v; at = 0; next = 0; span = noSpan }
+
+unfoldable pub ownOf : List ℕ → Own
+ownOf f = cond (accepts (fileStage f)) (ownIn f) (notOwn (fileStage f))

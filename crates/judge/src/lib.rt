@@ -1,11 +1,13 @@
-// The whole judgement of a file: its image, rules 1 to 14 and 27, then the survey over the values that the image names, rules 15 to 22.
+// The whole judgement of a file: its image, rules 1 to 14 and 27, then the survey over the values that the image names, rules 15 to 22, then the mask that it
+// may have, rule 28.
 ghost use mathlib.Core.Path.{_≡_};
 ghost use Rattle.paper.specs.Calls.{judgedOf};
-ghost use Rattle.judge.specs.Examining.{notExamined, examinedOf};
+ghost use Rattle.judge.specs.Examining.{notExamined, examinedOf, notOwn, ownOf};
 use layout::Further;
 use paper::Judged;
 use paper::Part;
 use paper::Verdict;
+use pieces::Span;
 
 // What one examination of a file finds: the judgement, and of the image what the other calls ask for.
 pub struct Examined {
@@ -18,6 +20,15 @@ pub struct Examined {
     pub characters: Part,
     pub metadata: Part,
     pub further: Further,
+}
+
+// What the file's own rules find: what is examined by them, and for a mask where the directory stands, the next offset and, where that is not 0, the span of
+// the pieces.
+pub struct Own {
+    pub examined: Examined,
+    pub at: usize,
+    pub next: u32,
+    pub span: Span,
 }
 
 // What is answered for a refused file.
@@ -38,13 +49,25 @@ fn refused(verdict: Verdict) -> Examined
     }
 }
 
-// What a file shows: the whole judgement, and where the values stand that the other calls hand back.
-pub fn examine(file: &[u8]) -> Examined
-    ensures { λ r. ⌜ r ≡ examinedOf (now (file .entry)) ⌝ }
+// What is answered where one of the file's own rules is broken.
+fn refused_own(verdict: Verdict) -> Own
+    ensures { λ r. ⌜ r ≡ notOwn verdict ⌝ }
+{
+    Own {
+        examined: refused(verdict),
+        at: 0,
+        next: 0,
+        span: Span { low: 0, high: 0 },
+    }
+}
+
+// What a file shows by its own rules, 1 to 22 and 27.
+fn examine_own(file: &[u8]) -> Own
+    ensures { λ r. ⌜ r ≡ ownOf (now (file .entry)) ⌝ }
 {
     let i = image::judge_image(file);
     if i.verdict.number != 0 {
-        return refused(i.verdict);
+        return refused_own(i.verdict);
     }
     let directory = i.directory;
     let doubles = i.doubles;
@@ -62,26 +85,66 @@ pub fn examine(file: &[u8]) -> Examined
         i.length,
     );
     if j.verdict.number != 0 {
-        return refused(j.verdict);
+        return refused_own(j.verdict);
     }
     let further = i.further;
-    Examined {
-        judged: j,
-        big: i.big,
-        width: i.width,
-        length: i.length,
-        directory,
-        doubles,
-        characters,
-        metadata,
-        further,
+    let span = i.span;
+    Own {
+        examined: Examined {
+            judged: j,
+            big: i.big,
+            width: i.width,
+            length: i.length,
+            directory,
+            doubles,
+            characters,
+            metadata,
+            further,
+        },
+        at: i.at,
+        next: i.next,
+        span,
     }
 }
 
-// The whole judgement: verdict and place, K, the minor revision, georeference and corners.
+// What it shows where its next offset leads to a mask.
+fn masked(file: &[u8], o: Own) -> Examined
+    requires { ⌜ (o ≡ ownOf (now file)) × (o .next ≡ 0 → ⊥) ⌝ }
+    ensures { λ r. ⌜ r ≡ examinedOf (now (file .entry)) ⌝ }
+{
+    let e = o.examined;
+    let span = o.span;
+    let number = second::judge_mask(file, e.big, o.at, o.next, e.width, e.length, span);
+    if number != 0 {
+        return refused(Verdict {
+            number: 28,
+            place: number,
+        });
+    }
+    e
+}
+
+// What a file shows: the whole judgement, and where the values stand that the other calls hand back.
+pub fn examine(file: &[u8]) -> Examined
+    ensures { λ r. ⌜ r ≡ examinedOf (now (file .entry)) ⌝ }
+{
+    let o = examine_own(file);
+    if o.next == 0 {
+        return o.examined;
+    }
+    masked(file, o)
+}
+
+// The whole judgement: verdict and place, K, the minor revision, georeference and corners. It asks for both parts by itself: with two callers each of them is
+// a function of its own, and what is told of a mask burdens no file without one.
 pub fn judge(file: &[u8]) -> Judged
     ensures { λ r. ⌜ r ≡ judgedOf (now (file .entry)) ⌝ }
 {
-    let e = examine(file);
+    let o = examine_own(file);
+    if o.next == 0 {
+        let e = o.examined;
+        return e.judged;
+    }
+    let e = masked(file, o);
     e.judged
 }

@@ -23,7 +23,8 @@ use Rattle.keys.proofs.Turn.{entry-any}
 use Rattle.image.specs.Imaging.{tagPart}
 use Rattle.judge.specs.Examining.{examinedIn, notExamined, examinedOf}
 use Rattle.paper.proofs.Keeps.{rule15-kept, rule17-kept}
-use Rattle.judge.proofs.Seen.{Stands, size, stands}
+use Rattle.image.proofs.Seen.{Stands}
+use Rattle.judge.proofs.Seen.{size, stands}
 use Rattle.rows.specs.Planning.{planBy, planOf, Asks}
 use Rattle.rows.specs.declared.Plan.{Plan}
 

@@ -27,7 +27,8 @@ use Rattle.image.specs.Imaging.{tagPart}
 use Rattle.judge.specs.Examining.{examinedIn, examinedOf}
 use Rattle.judge.specs.declared.Examined.{Examined}
 use Rattle.paper.proofs.Keeps.{rule17-kept}
-use Rattle.judge.proofs.Seen.{Stands, accepted, found, size, stands}
+use Rattle.image.proofs.Seen.{Stands}
+use Rattle.judge.proofs.Seen.{accepted, found, size, stands}
 use Rattle.texts.proofs.Entries.{verdict-is, entriesBy, lists}
 
 -- a refusal

@@ -22,7 +22,8 @@ use Rattle.image.specs.Imaging.{tagPart}
 use Rattle.judge.specs.Examining.{examinedIn, examinedOf}
 use Rattle.judge.specs.declared.Examined.{Examined}
 use Rattle.paper.proofs.Keeps.{rule15-kept}
-use Rattle.judge.proofs.Seen.{Stands, judged-is, accepted, found, stands}
+use Rattle.image.proofs.Seen.{Stands}
+use Rattle.judge.proofs.Seen.{judged-is, accepted, found, stands}
 
 pub verdict-is : (f : List ℕ) (e : Examined) → e ≡ examinedOf f → e .judged .verdict ≡ verdictOf f
 verdict-is f e is = ap (λ (x : Examined). x .judged .verdict) is ∙ ap (λ (j : Judged). j .verdict) (judged-is f) ∙ judged-verdict f

@@ -32,7 +32,8 @@ use Rattle.tags.specs.Slots.{tagAt, lineAt}
 use Rattle.image.specs.Imaging.{tagPart}
 use Rattle.judge.specs.Examining.{examinedIn, examinedOf}
 use Rattle.judge.specs.declared.Examined.{Examined}
-use Rattle.judge.proofs.Seen.{Stands, accepted, found, size, stands, present, further-stands, further-inside}
+use Rattle.image.proofs.Seen.{Stands}
+use Rattle.judge.proofs.Seen.{accepted, found, size, stands, present, further-stands, further-inside}
 use Rattle.texts.proofs.Entries.{verdict-is}
 
 -- ---- a file that is refused
