@@ -1,7 +1,7 @@
 -- The judgement without C-14: rule 8 wants next offset 0, directly behind rule 7, and no mask is looked for; every other rule is the verdict's own. A file
 -- whose next offset is 0 has the same verdict and place from both, and only one that was refused by 8 can have another. Assumes nothing.
 use Prim.Native.Nat.{ℕ}
-use mathlib.Core.Path.{_≡_, refl, sym, ap, _∙_}
+use mathlib.Core.Path.{_≡_, refl, sym, _∙_}
 use mathlib.Core.Bool.{Bool, true, false}
 use mathlib.Core.List.{List}
 use lib.Dec.{eqb}

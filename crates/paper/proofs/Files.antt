@@ -6,6 +6,7 @@ use mathlib.Core.Bool.{Bool, false, cond}
 use mathlib.Core.List.{List, [], _∷_, _++_, reverse}
 use lib.Dec.{leb}
 use lib.ListN.{length, replicate, take}
+use lib.Seq.{sets}
 use Rattle.paper.specs.Bytes.{enc}
 use Rattle.paper.specs.Block.{joined}
 use Rattle.paper.proofs.Marked.{fileA}
@@ -34,6 +35,9 @@ ascii t ns = field t 2 1 ns
 unfoldable pub shorts : ℕ → List ℕ → Field
 shorts t ns = field t 3 2 ns
 
+unfoldable pub longs : ℕ → List ℕ → Field
+longs t ns = field t 4 4 ns
+
 -- each by its 64 bits
 unfoldable pub doubles : ℕ → List ℕ → Field
 doubles t ns = field t 12 8 ns
@@ -61,20 +65,31 @@ entries big at (x ∷ xs) =
     ++ cond (leb (bytesOf x) 4) (take 4 (values big x ++ replicate 4 0)) (written big 4 at)
     ++ entries big (at + length (behind big x)) xs
 
--- The directory at 8, the values behind it, the picture at the end. The fields are told where the picture starts.
-unfoldable pub laid : Bool → (ℕ → List Field) → List ℕ → List ℕ
+-- A directory at `at` with a next offset, the values behind it, the picture at the end. The fields are told where the picture starts.
+unfoldable pub standing : Bool → ℕ → ℕ → (ℕ → List Field) → List ℕ → List ℕ
 unfolding written behind entries joined
+standing big at next fields picture =
+    let from : ℕ = at + 6 + 12 * length (fields 0) in
+    let xs : List Field = fields (from + length (joined (behind big) (fields 0))) in
+    written big 2 (length xs)
+    ++ entries big from xs
+    ++ written big 4 next
+    ++ joined (behind big) xs
+    ++ picture
+
+-- a file with a directory at 8
+unfoldable pub laid : Bool → (ℕ → List Field) → List ℕ → List ℕ
+unfolding written standing
 laid big fields picture =
-    let at : ℕ = 14 + 12 * length (fields 0) in
-    let xs : List Field = fields (at + length (joined (behind big) (fields 0))) in
     cond big (0x4D ∷ 0x4D ∷ []) (0x49 ∷ 0x49 ∷ [])
     ++ written big 2 42
     ++ written big 4 8
-    ++ written big 2 (length xs)
-    ++ entries big at xs
-    ++ written big 4 0
-    ++ joined (behind big) xs
-    ++ picture
+    ++ standing big 8 0 fields picture
+
+-- a second directory behind a file, whose next offset stands at `next`
+unfoldable pub followed : Bool → List ℕ → ℕ → (ℕ → List Field) → List ℕ → List ℕ
+unfolding written standing
+followed big f next fields picture = sets f next (written big 4 (length f)) ++ standing big (length f) 0 fields picture
 
 -- ---- the fields of file A
 

@@ -45,6 +45,7 @@ pub mod KeyBoundaries
 pub mod Tiled
 pub mod Repeated
 pub mod Revised
+pub mod Masked
 pub mod Tables
 -- laws that the proofs of code cite
 pub mod Laws

@@ -236,7 +236,7 @@ others : List Part
 unfolding inside
 others = inside ++ part 158 24 ∷ part 182 48 ∷ part 230 32 ∷ []
 
-whole : List Part
+unfoldable pub whole : List Part
 unfolding dir150 others
 whole = dir150 ++ part 18 2 ∷ others
 

@@ -1,14 +1,14 @@
--- Both sides of every number of the table of tags: needed tags, types, counts and values; strips or tiles; where pieces may lie. Each line is one
--- definition over some numbers, computed. Assumes nothing.
+-- Both sides of every number of the tables of tags, the image's and a mask's: needed tags, types, counts and values; strips or tiles; where pieces may
+-- lie. Each line is one definition over some numbers, computed. Assumes nothing.
 use Prim.Native.Nat.{ℕ}
 use mathlib.Core.Path.{_≡_, refl}
 use mathlib.Core.Bool.{true, false, cond}
 use mathlib.Core.List.{List, [], _∷_, _++_, map}
 use lib.Dec.{eqb}
-use lib.ListN.{replicate}
+use lib.ListN.{replicate, take}
 use Rattle.paper.specs.Outcome.{kept, broken}
 use Rattle.paper.specs.Tests.{keep}
-use Rattle.paper.specs.Tags.{Line, line, table, no, any, listed, Held, rule27, offsetsTag, byteCountsTag, roundedUp, fitsLine}
+use Rattle.paper.specs.Tags.{Line, line, table, maskTable, no, any, listed, Held, rule27, offsetsTag, byteCountsTag, roundedUp, fitsLine}
 use Rattle.paper.specs.Pieces.{part, shares, fullList, Piece, rule13, rule14}
 use Rattle.paper.proofs.Computed.{computed}
 use Rattle.paper.proofs.Boundaries.{to, entered}
@@ -93,20 +93,20 @@ pub counts-text : map (countsAt 2) table ++ map (countsAt 1) table ≡ replicate
 unfolding countsAt counts some entered computed
 counts-text = refl
 
--- which of some values the line of a tag allows
-unfoldable pub allowed : ℕ → List ℕ → List ℕ
+-- which of some values the line of a tag allows, in a table
+unfoldable pub allowed : List Line → ℕ → List ℕ → List ℕ
 unfolding lineOf
-allowed t vs = keep (lineOf t table .values) vs
+allowed tb t vs = keep (lineOf t tb .values) vs
 
-pub values : map (λ t. allowed t (0 ∷ 1 ∷ 2 ∷ 999999 ∷ 1000000 ∷ 1000001 ∷ [])) (256 ∷ 257 ∷ [])
-    ++ allowed 258 (to 0 40)
-    ∷ allowed 259 (to 0 9 ++ 32772 ∷ 32773 ∷ 32774 ∷ [])
-    ∷ allowed 262 (to 0 9)
-    ∷ allowed 277 (to 0 10)
-    ∷ allowed 278 (0 ∷ 1 ∷ 2 ∷ 4294967294 ∷ 4294967295 ∷ [])
-    ∷ allowed 284 (to 0 9)
-    ∷ map (λ t. allowed t (to 0 49 ++ 4294967279 ∷ 4294967280 ∷ 4294967281 ∷ [])) (322 ∷ 323 ∷ [])
-    ++ map (λ t. allowed t (0 ∷ 1 ∷ 4294967295 ∷ [])) (273 ∷ 279 ∷ 324 ∷ 325 ∷ 33550 ∷ 33922 ∷ 34264 ∷ 34735 ∷ 34736 ∷ 34737 ∷ 50909 ∷ [])
+pub values : map (λ t. allowed table t (0 ∷ 1 ∷ 2 ∷ 999999 ∷ 1000000 ∷ 1000001 ∷ [])) (256 ∷ 257 ∷ [])
+    ++ allowed table 258 (to 0 40)
+    ∷ allowed table 259 (to 0 9 ++ 32772 ∷ 32773 ∷ 32774 ∷ [])
+    ∷ allowed table 262 (to 0 9)
+    ∷ allowed table 277 (to 0 10)
+    ∷ allowed table 278 (0 ∷ 1 ∷ 2 ∷ 4294967294 ∷ 4294967295 ∷ [])
+    ∷ allowed table 284 (to 0 9)
+    ∷ map (λ t. allowed table t (to 0 49 ++ 4294967279 ∷ 4294967280 ∷ 4294967281 ∷ [])) (322 ∷ 323 ∷ [])
+    ++ map (λ t. allowed table t (0 ∷ 1 ∷ 4294967295 ∷ [])) (273 ∷ 279 ∷ 324 ∷ 325 ∷ 33550 ∷ 33922 ∷ 34264 ∷ 34735 ∷ 34736 ∷ 34737 ∷ 50909 ∷ [])
     ≡ (1 ∷ 2 ∷ 999999 ∷ 1000000 ∷ [])
     ∷ (1 ∷ 2 ∷ 999999 ∷ 1000000 ∷ [])
     ∷ (1 ∷ 8 ∷ 16 ∷ 32 ∷ [])
@@ -120,6 +120,64 @@ pub values : map (λ t. allowed t (0 ∷ 1 ∷ 2 ∷ 999999 ∷ 1000000 ∷ 1000
     ∷ replicate 11 (0 ∷ 1 ∷ 4294967295 ∷ [])
 unfolding allowed lineOf to computed
 values = refl
+
+-- ---- the table of a mask
+
+-- for an image of 4 by 70000, behind the lines of a picture 254
+unfoldable pub maskLines : List Line
+unfolding maskTable
+maskLines = maskTable 4 70000
+
+pub mask-needed : map (λ tiled. map (λ l. l .tag) (keep (λ l. l .needed tiled) maskLines)) (false ∷ true ∷ [])
+    ≡ (256 ∷ 257 ∷ 258 ∷ 259 ∷ 262 ∷ 273 ∷ 277 ∷ 278 ∷ 279 ∷ 254 ∷ [])
+    ∷ (256 ∷ 257 ∷ 258 ∷ 259 ∷ 262 ∷ 277 ∷ 322 ∷ 323 ∷ 324 ∷ 325 ∷ 254 ∷ [])
+    ∷ []
+unfolding maskLines computed
+mask-needed = refl
+
+-- the lines of a picture take the types and counts of the image's; 254 is one LONG
+pub mask-types : map (typesAt 1) maskLines ≡ map (typesAt 1) (take 14 table) ++ (4 ∷ []) ∷ []
+unfolding maskLines typesAt to entered computed
+mask-types = refl
+
+pub mask-counts : map (countsAt 3) maskLines ++ map (countsAt 4) maskLines
+    ≡ map (countsAt 3) (take 14 table) ++ [] ∷ map (countsAt 4) (take 14 table) ++ only ∷ []
+unfolding maskLines countsAt counts only entered computed
+mask-counts = refl
+
+pub mask-values : allowed maskLines 254 (to 0 9 ++ 4294967295 ∷ [])
+    ∷ allowed maskLines 256 (0 ∷ 1 ∷ 3 ∷ 4 ∷ 5 ∷ 1000000 ∷ [])
+    ∷ allowed maskLines 257 (1 ∷ 4 ∷ 69999 ∷ 70000 ∷ 70001 ∷ 1000000 ∷ [])
+    ∷ allowed maskLines 258 (to 0 40)
+    ∷ allowed maskLines 259 (to 0 9 ++ 32772 ∷ 32773 ∷ 32774 ∷ [])
+    ∷ allowed maskLines 262 (to 0 9)
+    ∷ allowed maskLines 277 (to 0 10)
+    ∷ allowed maskLines 278 (0 ∷ 1 ∷ 2 ∷ 4294967294 ∷ 4294967295 ∷ [])
+    ∷ allowed maskLines 284 (to 0 9)
+    ∷ map (λ t. allowed maskLines t (to 0 49 ++ 4294967279 ∷ 4294967280 ∷ 4294967281 ∷ [])) (322 ∷ 323 ∷ [])
+    ++ map (λ t. allowed maskLines t (0 ∷ 1 ∷ 4294967295 ∷ [])) (273 ∷ 279 ∷ 324 ∷ 325 ∷ [])
+    ≡ (4 ∷ [])
+    ∷ (4 ∷ [])
+    ∷ (70000 ∷ [])
+    ∷ (1 ∷ [])
+    ∷ (1 ∷ 2 ∷ 32773 ∷ [])
+    ∷ (4 ∷ [])
+    ∷ (1 ∷ [])
+    ∷ (1 ∷ 2 ∷ 4294967294 ∷ 4294967295 ∷ [])
+    ∷ (1 ∷ [])
+    ∷ (16 ∷ 32 ∷ 48 ∷ 4294967280 ∷ [])
+    ∷ (16 ∷ 32 ∷ 48 ∷ 4294967280 ∷ [])
+    ∷ replicate 4 (0 ∷ 1 ∷ 4294967295 ∷ [])
+unfolding maskLines allowed lineOf to computed
+mask-values = refl
+
+-- its value bytes on the reading list: not those of tags that the image's table has alone
+pub mask-listed : map (λ t. listed maskLines (entered t 4 1 0 4)) (0 ∷ 253 ∷ 254 ∷ 255 ∷ 256 ∷ 284 ∷ 325 ∷ 33550 ∷ 34735 ∷ 50909 ∷ [])
+    ≡ false ∷ false ∷ true ∷ false ∷ true ∷ true ∷ true ∷ false ∷ false ∷ false ∷ []
+unfolding maskLines entered computed
+mask-listed = refl
+
+-- ---- the reading list
 
 -- the value bytes of an entry are on the reading list: tags of the table and beside it, types 0 to 13
 pub listed-tags : map (λ t. listed table (entered t 3 1 0 2)) (0 ∷ 255 ∷ 256 ∷ 260 ∷ 325 ∷ 326 ∷ 50908 ∷ 50909 ∷ 50910 ∷ [])

@@ -54,7 +54,7 @@ lies : ℕ → List (List ℕ)
 unfolding entry
 lies at = entry 324 4 1 at ∷ entry 325 3 1 8 ∷ []
 
-pub fileT : List ℕ
+unfoldable pub fileT : List ℕ
 unfolding delivered front samples sides lies
 fileT = delivered (front 4 2 ++ samples ∷ sides ++ lies 274) (replicate 8 0)
 

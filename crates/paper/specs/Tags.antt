@@ -1,6 +1,6 @@
 -- Document 01, the table of tags, with request C-11's tags of tiles, that of a mask by request C-14, and rules 27 and 9 to 12, rule 10 as request C-12
--- leaves it. From here on a rule sees the value bytes of the table's tags, which are runs of the file. `tb` is a table and `hs` are the entries of a directory, so that another kind of directory may have a table of its
--- own. Assumes nothing.
+-- leaves it. From here on a rule sees the value bytes of the table's tags, which are runs of the file. `tb` is a table and `hs` are the entries of a
+-- directory, so that another kind of directory may have a table of its own. Assumes nothing.
 use Prim.Native.Nat.{ℕ, _+_, _-_, _*_, _/_, _%_}
 use mathlib.Core.Bool.{Bool, true, false, cond, not, _&&_, _||_}
 use mathlib.Core.List.{List, [], _∷_}

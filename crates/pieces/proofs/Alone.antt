@@ -36,14 +36,6 @@ fourteen-is ps (s ∷ ss) = go (touches ps s) (fourteen-is ps ss)
     go true h = refl
     go false h = h
 
-pub some-touched : (ps : List Part) (ss : List Piece) → some (touches ps) ss ≡ false → rule14 ps ss ≡ kept
-unfolding rule14 firstBad some
-some-touched ps [] h = refl
-some-touched ps (s ∷ ss) h =
-    let o = or-false (touches ps s) _ h in
-    rw (o .0) (some-touched ps ss (o .1))
-
--- and back
 none-touched : (ps : List Part) (ss : List Piece) → rule14 ps ss ≡ kept → some (touches ps) ss ≡ false
 unfolding rule14 firstBad some
 none-touched ps [] h = refl
