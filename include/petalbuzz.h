@@ -45,7 +45,7 @@ extern "C" {
 
 /* Bytes of stack that a call takes at most, the frame of a *_file or *_runs
  * function included: measured. It does not depend on the length of the file. */
-#define PETALBUZZ_STACK 3072
+#define PETALBUZZ_STACK 4096
 
 /* The verdicts: what is wrong, and behind a colon what the place is, the first
  * one of several; without a colon the place is 0. A piece is a strip or a tile,
