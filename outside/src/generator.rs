@@ -16,7 +16,7 @@ pub mod prng;
 pub mod targeted;
 pub mod valid;
 
-pub use targeted::{targeted, Call, Case};
+pub use targeted::{targeted, targeted_files, Call, Case};
 
 use plan::Laid;
 use prng::Random;

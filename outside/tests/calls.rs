@@ -10,7 +10,7 @@ use outside::compiled::asking::{
 };
 use outside::compiled::{ask, Question, Symbol};
 use outside::generator::prng::Random;
-use outside::generator::{masked_sample, random, sample, targeted, Call, Case};
+use outside::generator::{masked_sample, random, sample, targeted, targeted_files, Call, Case};
 use outside::reader::tables::KEYS;
 use outside::reader::{judge, judgements, texts, Order, Verdict};
 use std::collections::BTreeMap;
@@ -170,8 +170,7 @@ fn texts_of_every_number_agree() {
 fn of_every_verdict(most: usize) -> Vec<Vec<u8>> {
     let mut seen: BTreeMap<(u32, bool, u32), usize> = BTreeMap::new();
     let mixed = (0..6_000).map(|number| sample(73, number).file);
-    let plain = targeted(73).into_iter().filter(|case| matches!(case.call, Call::Judge));
-    let mut files: Vec<Vec<u8>> = mixed.chain(plain.map(|case| case.file)).collect();
+    let mut files: Vec<Vec<u8>> = mixed.chain(targeted_files(73)).collect();
     files.retain(|file| {
         let several = tags(file).iter().filter(|tag| **tag == 50909).count() > 1;
         let Verdict { number, place } = judge(file).verdict;

@@ -5,7 +5,7 @@ mod common;
 
 use outside::compiled::{ask, disagreements, expected, Answer, Question, Symbol};
 use outside::generator::large::{many_masked, many_pieces, many_texts};
-use outside::generator::{masked_sample, sample, targeted, Call};
+use outside::generator::{masked_sample, sample, targeted_files};
 use outside::reader::tables::BOTH;
 use outside::reader::Order;
 
@@ -45,15 +45,9 @@ fn named_files_with_a_mask_agree() {
     }
 }
 
-/// The files of the targeted cases of the plain judgement.
-fn cases(seed: u64) -> Vec<Vec<u8>> {
-    let plain = targeted(seed).into_iter().filter(|case| matches!(case.call, Call::Judge));
-    plain.map(|case| case.file).collect()
-}
-
 #[test]
 fn the_targeted_cases_agree() {
-    agree(&cases(52));
+    agree(&targeted_files(52).collect::<Vec<_>>());
 }
 
 #[test]
@@ -78,13 +72,13 @@ fn files_of_many_pieces_agree() {
 #[test]
 fn files_of_many_texts_agree() {
     for order in [Order::Little, Order::Big] {
-        let file = many_texts(order, 5_000, 3);
+        let [file, masked] = [false, true].map(|masked| many_texts(order, 5_000, 3, masked));
         // one piece a byte longer, so that it is on a value
         let mut long = file.clone();
         let byte = file.len() - 4 * 2_500 + if order == Order::Big { 3 } else { 0 };
         long[byte] += 1;
         assert_eq!((expected(&long).verdict, expected(&long).place), (14, 2_500));
-        agree(&[file, long]);
+        agree(&[file, long, masked]);
     }
 }
 

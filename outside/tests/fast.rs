@@ -5,7 +5,7 @@ mod common;
 use outside::compiled::{expected, fast};
 use outside::generator::large::{many_masked, many_pieces, many_texts};
 use outside::generator::plan::{Plan, Tag};
-use outside::generator::{masked_sample, sample, targeted, Call};
+use outside::generator::{masked_sample, sample, targeted_files};
 use outside::reader::tables::{Family, BOTH, TAGS};
 use outside::reader::{leads_on, reading_list, texts, Order};
 use std::collections::BTreeSet;
@@ -23,8 +23,7 @@ fn the_fast_judge_agrees_on_a_hundred_thousand_files() {
 
 #[test]
 fn the_fast_judge_agrees_on_the_targeted_cases() {
-    let plain = targeted(42).into_iter().filter(|case| matches!(case.call, Call::Judge));
-    plain.for_each(|case| agrees(&case.file));
+    targeted_files(42).for_each(|file| agrees(&file));
 }
 
 #[test]
@@ -108,9 +107,14 @@ fn the_fast_judge_agrees_where_every_value_is_long() {
 fn the_fast_judge_agrees_on_many_texts() {
     for order in [Order::Little, Order::Big] {
         for (strips, bytes) in [(2, 1), (1_013, 2), (5_000, 3)] {
-            let file = many_texts(order, strips, bytes);
-            assert_eq!((expected(&file).verdict, texts(&file)), (0, 1_013));
-            agrees(&file);
+            let [file, masked] = [false, true].map(|masked| {
+                let file = many_texts(order, strips, bytes, masked);
+                assert_eq!((expected(&file).verdict, texts(&file)), (0, 1_013));
+                assert_eq!(leads_on(&file), masked);
+                agrees(&file);
+                file
+            });
+            agrees(&masked[..masked.len() - 1]);
             agrees(&file[..file.len() - 1]);
             let mut long = file.clone();
             let byte = file.len() - 4 * strips as usize + if order == Order::Big { 3 } else { 0 };

@@ -133,7 +133,8 @@ fn the_table_is_folded_into_the_code() {
     let object = archive.windows(4).position(|bytes| bytes == b"\x7FELF").expect("an object");
     let object = &archive[object..];
     // What every file goes through. A mask's judgement, beside it, gathers by the table as data.
-    let code = section(object, ".text.judge::examine_own").expect("the judgement by the file's own rules");
+    let code =
+        section(object, ".text.judge::examine_own").expect("the judgement by the file's own rules");
     let holds = |bytes: &[u8]| code.windows(bytes.len()).any(|window| window == bytes);
     for row in rows() {
         let (tag, needed) = (row[0].to_le_bytes(), row[1].to_le_bytes());

@@ -3,37 +3,25 @@
 
 mod common;
 
+use common::kept::{files, keep};
 use common::masks::{base, named, sorts};
 use common::*;
 use outside::compiled::fast;
 use outside::generator::large::many_masked;
 use outside::generator::plan::{Laid, Part, Sheet, Tag};
-use outside::generator::{masked_sample, random, sample, targeted, Call};
+use outside::generator::{masked_sample, sample};
 use outside::reader::tables::{Family, C_13, C_14, TAGS};
 use outside::reader::{
     citation, judge, judge_by, judgements, judgements_by, key_block, key_rows, leads_on, metadata,
-    reading_list, reading_list_by, Block, Cited, Georeference, Judged, Order, Text,
+    reading_list, Block, Cited, Georeference, Judged, Order, Text,
 };
 use std::collections::BTreeSet;
 use std::ops::Range;
 
-/// The files of the targeted cases of the plain judgement, and of the mix.
-fn files() -> impl Iterator<Item = Vec<u8>> {
-    let plain = targeted(111).into_iter().filter(|case| matches!(case.call, Call::Judge));
-    plain.map(|case| case.file).chain(random(112, 20_000).into_iter().map(|sample| sample.file))
-}
-
 #[test]
 fn a_file_without_a_next_offset_keeps_its_answers_and_its_list() {
-    let (mut compared, mut numbers) = (0, BTreeSet::new());
-    for file in files().filter(|file| !leads_on(file)) {
-        let judged = judge_by(&file, C_14);
-        assert_eq!(judge_by(&file, C_13), judged, "{file:02X?}");
-        let lists = [C_13, C_14].map(|rules| reading_list_by(&file, rules));
-        assert_eq!(lists[0], lists[1], "{file:02X?}");
-        numbers.insert(judged.verdict.number);
-        compared += 1;
-    }
+    let kept = files(111).filter(|file| !leads_on(file));
+    let (compared, numbers) = keep(kept, C_13, C_14);
     let all = judgements_by(C_13).filter(|number| *number != 8);
     assert_eq!(numbers, all.collect::<BTreeSet<u32>>());
     assert!(compared > 20_000, "{compared} files");
@@ -44,7 +32,7 @@ fn a_file_without_a_next_offset_keeps_its_answers_and_its_list() {
 #[test]
 fn a_file_with_a_next_offset_was_refused_by_rule_8() {
     let (mut anew, mut numbers) = (0, BTreeSet::new());
-    for file in files().filter(|file| leads_on(file)) {
+    for file in files(111).filter(|file| leads_on(file)) {
         let (was, is) = (judge_by(&file, C_13).verdict, judge_by(&file, C_14).verdict);
         if was.number < 8 {
             assert_eq!(is, was, "{file:02X?}");
@@ -234,7 +222,7 @@ fn the_list_holds_the_image_and_of_the_mask_what_its_stage_gives() {
 #[test]
 fn a_refused_image_has_nothing_of_its_mask_on_the_list() {
     let mut numbers = BTreeSet::new();
-    for file in files().filter(|file| leads_on(file)) {
+    for file in files(111).filter(|file| leads_on(file)) {
         let number = judge(&file).verdict.number;
         if number != 0 && number != 28 {
             assert_eq!(reading_list(&file), reading_list(&without_next(&file)), "{file:02X?}");

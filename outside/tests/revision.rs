@@ -3,6 +3,7 @@
 
 mod common;
 
+use common::kept::{files, keep};
 use common::*;
 use outside::generator::keyplan::{Encoded, Held};
 use outside::generator::plan::Plan;
@@ -17,12 +18,6 @@ use std::collections::BTreeSet;
 
 const ORDERS: [Order; 2] = [Order::Little, Order::Big];
 
-/// The files of the targeted cases of the plain judgement, and of the mix.
-fn files() -> impl Iterator<Item = Vec<u8>> {
-    let plain = targeted(101).into_iter().filter(|case| matches!(case.call, Call::Judge));
-    plain.map(|case| case.file).chain(random(102, 20_000).into_iter().map(|sample| sample.file))
-}
-
 /// The answer of the key block's call, and all that is lent.
 fn block_by(file: &[u8], rules: Rules) -> (Block, Vec<u8>) {
     let mut out = vec![0xEE; 3_000];
@@ -31,18 +26,12 @@ fn block_by(file: &[u8], rules: Rules) -> (Block, Vec<u8>) {
 
 #[test]
 fn a_file_that_is_not_of_minor_revision_1_keeps_its_answers_its_list_and_its_block() {
-    let (mut compared, mut numbers) = (0, BTreeSet::new());
-    for file in files().filter(|file| minor(file) != Some(1)) {
-        let judged = judge_by(&file, C_13);
-        assert_eq!(judge_by(&file, C_12), judged, "{file:02X?}");
-        assert_eq!(judged.minor, 0, "{file:02X?}");
-        let lists = [C_12, C_13].map(|rules| reading_list_by(&file, rules));
-        assert_eq!(lists[0], lists[1], "{file:02X?}");
-        let blocks = [C_12, C_13].map(|rules| block_by(&file, rules));
+    let kept = files(101).filter(|file| minor(file) != Some(1)).inspect(|file| {
+        assert_eq!(judge_by(file, C_13).minor, 0, "{file:02X?}");
+        let blocks = [C_12, C_13].map(|rules| block_by(file, rules));
         assert_eq!(blocks[0], blocks[1], "{file:02X?}");
-        numbers.insert(judged.verdict.number);
-        compared += 1;
-    }
+    });
+    let (compared, numbers) = keep(kept, C_12, C_13);
     assert_eq!(numbers, judgements_by(C_13).collect::<BTreeSet<u32>>());
     assert!(compared > 20_000, "{compared} files");
 }
@@ -51,7 +40,7 @@ fn a_file_that_is_not_of_minor_revision_1_keeps_its_answers_its_list_and_its_blo
 #[test]
 fn only_a_file_that_was_refused_by_rule_15_is_judged_anew() {
     let (mut anew, mut numbers) = (0, BTreeSet::new());
-    for file in files() {
+    for file in files(101) {
         let (was, is) = (judge_by(&file, C_12).verdict, judge_by(&file, C_13).verdict);
         let lists = [C_12, C_13].map(|rules| reading_list_by(&file, rules));
         assert_eq!(lists[0], lists[1], "{file:02X?}");

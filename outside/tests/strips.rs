@@ -5,17 +5,12 @@
 
 mod common;
 
+use common::kept::{files, keep};
 use common::tags;
-use outside::generator::{random, targeted, Call, Case};
+use outside::generator::{targeted, Case};
 use outside::reader::tables::{Family, C_11, DOCUMENT_01};
-use outside::reader::{judge_by, judgements_by, reading_list_by};
+use outside::reader::{judge_by, judgements_by};
 use std::collections::BTreeSet;
-
-/// The files of the targeted cases of the plain judgement, and of the mix.
-fn files() -> impl Iterator<Item = Vec<u8>> {
-    let plain = targeted(81).into_iter().filter(|case| matches!(case.call, Call::Judge));
-    plain.map(|case| case.file).chain(random(82, 20_000).into_iter().map(|sample| sample.file))
-}
 
 /// Whether a file carries tags of strips and none of tiles. One without a whole
 /// directory carries no tags, and counts too.
@@ -27,15 +22,8 @@ fn in_strips_alone(file: &[u8]) -> bool {
 
 #[test]
 fn a_file_without_tags_of_tiles_keeps_its_verdict_its_place_and_its_list() {
-    let (mut compared, mut numbers) = (0, BTreeSet::new());
-    for file in files().filter(|file| in_strips_alone(file)) {
-        let judged = judge_by(&file, DOCUMENT_01);
-        assert_eq!(judge_by(&file, C_11), judged, "{file:02X?}");
-        let lists = [C_11, DOCUMENT_01].map(|rules| reading_list_by(&file, rules));
-        assert_eq!(lists[0], lists[1], "{file:02X?}");
-        numbers.insert(judged.verdict.number);
-        compared += 1;
-    }
+    let kept = files(81).filter(|file| in_strips_alone(file));
+    let (compared, numbers) = keep(kept, DOCUMENT_01, C_11);
     assert_eq!(numbers, judgements_by(DOCUMENT_01).collect::<BTreeSet<u32>>());
     assert!(compared > 10_000, "{compared} files");
 }
@@ -45,7 +33,7 @@ fn a_file_without_tags_of_tiles_keeps_its_verdict_its_place_and_its_list() {
 #[test]
 fn only_tiles_and_files_of_no_family_are_judged_anew() {
     let mut anew = 0;
-    for file in files() {
+    for file in files(81) {
         let (was, is) = (judge_by(&file, DOCUMENT_01).verdict, judge_by(&file, C_11).verdict);
         if was != is {
             assert!(!in_strips_alone(&file), "{file:02X?}");

@@ -3,20 +3,13 @@
 
 mod common;
 
+use common::kept::{files, keep};
 use common::{held, keys, plan_like_a, tags, tiled, verdict};
 use outside::generator::plan::{Laid, Plan, Tag};
-use outside::generator::{random, sample, targeted, Call};
+use outside::generator::sample;
 use outside::reader::tables::{C_11, C_12};
-use outside::reader::{
-    judge, judge_by, judgements_by, metadata, reading_list, reading_list_by, texts, Order, Text,
-};
+use outside::reader::{judge, judge_by, judgements_by, metadata, reading_list, texts, Order, Text};
 use std::collections::BTreeSet;
-
-/// The files of the targeted cases of the plain judgement, and of the mix.
-fn files() -> impl Iterator<Item = Vec<u8>> {
-    let plain = targeted(91).into_iter().filter(|case| matches!(case.call, Call::Judge));
-    plain.map(|case| case.file).chain(random(92, 20_000).into_iter().map(|sample| sample.file))
-}
 
 /// Whether two metadata tags of a file's directory stand side by side.
 fn repeats(file: &[u8]) -> bool {
@@ -25,15 +18,8 @@ fn repeats(file: &[u8]) -> bool {
 
 #[test]
 fn a_file_without_two_side_by_side_keeps_its_verdict_its_place_and_its_list() {
-    let (mut compared, mut numbers) = (0, BTreeSet::new());
-    for file in files().filter(|file| !repeats(file)) {
-        let judged = judge_by(&file, C_12);
-        assert_eq!(judge_by(&file, C_11), judged, "{file:02X?}");
-        let lists = [C_11, C_12].map(|rules| reading_list_by(&file, rules));
-        assert_eq!(lists[0], lists[1], "{file:02X?}");
-        numbers.insert(judged.verdict.number);
-        compared += 1;
-    }
+    let kept = files(91).filter(|file| !repeats(file));
+    let (compared, numbers) = keep(kept, C_11, C_12);
     assert_eq!(numbers, judgements_by(C_12).collect::<BTreeSet<u32>>());
     assert!(compared > 20_000, "{compared} files");
 }
@@ -42,7 +28,7 @@ fn a_file_without_two_side_by_side_keeps_its_verdict_its_place_and_its_list() {
 #[test]
 fn a_file_with_two_side_by_side_was_refused_by_rule_6() {
     let (mut anew, mut numbers) = (0, BTreeSet::new());
-    for file in files().filter(|file| repeats(file)) {
+    for file in files(91).filter(|file| repeats(file)) {
         let (was, is) = (judge_by(&file, C_11).verdict, judge_by(&file, C_12).verdict);
         if is.number == 0 || is.number > 6 {
             assert_eq!(was, verdict(6, 50909), "{file:02X?}");

@@ -19,9 +19,6 @@ use pieces::Placed;
 use pieces::Span;
 use tags::table::SLOTS;
 
-// How many tags the table of a mask has.
-pub const MASK_SLOTS: usize = 15;
-
 // The runs that say where the pieces of a picture lie: those of the offsets and of the byte counts as parts of the file, whether each is of LONGs, and how
 // many pieces there are.
 struct Runs {
@@ -141,7 +138,7 @@ fn mask_crosses(
         return true;
     }
     let none = layout::value(file, 0, 0);
-    if crosses(file, big, p, span, starts, lens, MASK_SLOTS, none, 0) {
+    if crosses(file, big, p, span, starts, lens, mask::table::SLOTS, none, 0) {
         return true;
     }
     let froms = [0, at, mat];
@@ -164,7 +161,7 @@ fn image_crosses(
     ensures { λ r. ⌜ r ≡ some (touches (maskList mat mc (now (mstarts .entry)) (now (mlens .entry)))) (placesIn (now (file .entry)) big p) ⌝ }
 {
     let none = layout::value(file, 0, 0);
-    if crosses(file, big, p, span, mstarts, mlens, MASK_SLOTS, none, 0) {
+    if crosses(file, big, p, span, mstarts, mlens, mask::table::SLOTS, none, 0) {
         return true;
     }
     let froms = [mat];
@@ -192,10 +189,10 @@ pub fn judge_pictures(
     mc: usize,
     ma: usize,
     mb: usize,
-    typs: &[u32; MASK_SLOTS],
-    counts: &[u32; MASK_SLOTS],
-    starts: &[usize; MASK_SLOTS],
-    lens: &[usize; MASK_SLOTS],
+    typs: &[u32; mask::table::SLOTS],
+    counts: &[u32; mask::table::SLOTS],
+    starts: &[usize; mask::table::SLOTS],
+    lens: &[usize; mask::table::SLOTS],
     width: u32,
     length: u32,
 ) -> u32

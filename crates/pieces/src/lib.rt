@@ -513,7 +513,7 @@ fn is_met(from: usize, len: usize, low: usize, high: usize) -> bool
 }
 
 // Whether one of m parts that each have a start and a length has a byte from low up to high.
-pub fn meets(starts: &[usize], lens: &[usize], m: usize, low: usize, high: usize) -> bool
+fn meets(starts: &[usize], lens: &[usize], m: usize, low: usize, high: usize) -> bool
     requires { ⌜ (m ≤ length (now starts)) × (m ≤ length (now lens)) × Addable (now starts) × Addable (now lens) ⌝ }
     ensures { λ r. ⌜ r ≡ not (all (clear low high) (partsOf (now (starts .entry)) (now (lens .entry)) m)) ⌝ }
 {

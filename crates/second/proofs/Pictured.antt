@@ -9,11 +9,10 @@ use lib.Dec.{eqb}
 use lib.ListN.{length, getD}
 use Rattle.order.specs.Width.{width}
 use Rattle.paper.specs.Bytes.{run, num}
-use Rattle.paper.specs.Outcome.{first, _▸_}
 use Rattle.paper.specs.Layout.{dirLen, entries, sizeOf, rule6}
 use Rattle.paper.specs.Tags.{Line, table, maskTable, imageValues, find, tiled, offsetsTag, byteCountsTag, pieceCount}
 use Rattle.paper.specs.Pieces.{pieces, placesOf, rule13, rule14}
-use Rattle.paper.specs.Judge.{View, headIn, countIn, countRun, view, piecesOf, directoryOf, fullOf, maskView, bothParts, bothPieces}
+use Rattle.paper.specs.Judge.{View, headIn, countIn, countRun, view, piecesOf, fullOf, maskView}
 use Rattle.paper.specs.declared.Outcome.{Outcome}
 use Rattle.paper.specs.declared.Outcome.the-variants.{Kept as kept}
 use Rattle.paper.proofs.Laws.{run-length-in}
@@ -215,9 +214,5 @@ module _ {f : List ℕ} {big : Bool} {at next w l : ℕ} {span : Span} (b : Befo
         -- what the rules over both pictures say
         pub crossed-is : (c2 : ℕ) → maskView f ≡ viewOf (maskTable w l) f big next c2
             → picturesOf f (viewOf table f big at c) (viewOf (maskTable w l) f big next c2) .number ≡ crossed f .number
-        unfolding crossed bothParts bothPieces
-        crossed-is c2 e =
-            λ i. first
-            (13 ▸ rule13 (length f) (piecesOf (sym e i))
-            ∷ 14 ▸ rule14 (fullOf (sym (known .view-is) i) ++ directoryOf (sym e i)) (piecesOf (sym (known .view-is) i) ++ piecesOf (sym e i))
-            ∷ []) .number
+        unfolding crossed
+        crossed-is c2 e = λ i. picturesOf f (sym (known .view-is) i) (sym e i) .number

@@ -16,7 +16,7 @@ use Rattle.paper.specs.Tag
 use Rattle.paper.specs.Tags.{maskTable, valueOf}
 use Rattle.paper.specs.Judge.{Head, View, headIn, nextIn, countIn, entriesIn, dirRun, view, viewAt, entryRules, nextRules, tableRules}
 use Rattle.paper.specs.Judge.{offsetStage, countStage, entryStage, directoryStage, nextStage, fileStage, imageStage, surveyStage}
-use Rattle.paper.specs.Judge.{maskHead, maskLines, maskView, maskPictureRules, maskVerdict}
+use Rattle.paper.specs.Judge.{maskHead, maskLines, maskView, maskPictureRules, maskVerdict, bothParts, bothPieces}
 use Rattle.paper.specs.declared.Outcome.the-variants.{Kept as kept}
 use Rattle.paper.specs.declared.Verdict.{Verdict}
 use Rattle.paper.proofs.Laws.{run-length-in}
@@ -175,7 +175,7 @@ module _ {f : List ℕ} {big : Bool} {at next w l : ℕ} {span : Span} {c : ℕ}
             after-seven ∙ rw e
 
         parted : maskVerdict f ≡ first (tableRules (maskView f)) ▷ crossed f
-        unfolding maskPictureRules tableRules crossed all
+        unfolding maskPictureRules tableRules crossed bothParts bothPieces all
         parted = after-eight ∙ first-append (tableRules (maskView f)) _ refl
 
         pub columned : {typs counts starts lens : List ℕ} → Ready (maskTable w l) f big next c typs counts starts lens

@@ -2,14 +2,13 @@
 use Prim.Native.Nat.{ℕ}
 use mathlib.Core.Path.{_≡_}
 use mathlib.Core.Bool.{Bool}
-use mathlib.Core.List.{List, [], _∷_}
+use mathlib.Core.List.{List}
 use lib.ListN.{length}
-use Rattle.paper.specs.Outcome.{first, _▸_, _▷_}
+use Rattle.paper.specs.Outcome.{first, _▷_}
 use Rattle.paper.specs.Layout.{rule6}
 use Rattle.paper.specs.Tag
 use Rattle.paper.specs.Tags.{maskTable, valueOf}
-use Rattle.paper.specs.Pieces.{rule13, rule14}
-use Rattle.paper.specs.Judge.{headIn, nextIn, view, fileStage, piecesOf, tableRules, bothParts, bothPieces, maskView, maskVerdict}
+use Rattle.paper.specs.Judge.{headIn, nextIn, view, fileStage, piecesOf, tableRules, maskView, maskVerdict}
 use Rattle.paper.specs.declared.Outcome.the-variants.{Kept as kept}
 use Rattle.paper.specs.declared.Verdict.{Verdict}
 use Rattle.layout.specs.Opening.{openedOf}
@@ -18,6 +17,7 @@ use Rattle.lines.specs.Ready.{entriesAt, Ready}
 use Rattle.tags.specs.Tagging.{viewOf}
 use Rattle.pieces.specs.Spans.{spanOf}
 use Rattle.pieces.specs.declared.Span.{Span}
+use Rattle.crossing.specs.Pictures.{picturesOf}
 use Rattle.mask.specs.Masking.{taggedOf}
 
 -- the file keeps rules 1 to 22 and 27; its byte order, where its directory stands, the next offset, the picture's size, and the span of its pieces
@@ -37,7 +37,7 @@ pub record Second (f : List ℕ) (big : Bool) (at next w l : ℕ) (span : Span) 
 
 -- rules 13 and 14 of the mask
 unfoldable pub crossed : List ℕ → Verdict
-crossed f = first (13 ▸ rule13 (length f) (piecesOf (maskView f)) ∷ 14 ▸ rule14 (bothParts f) (bothPieces f) ∷ [])
+crossed f = picturesOf f (view f) (maskView f)
 
 -- it keeps rules 6 to 8 too, and the columns are its own; what is left are rules 27 and 9 to 14
 pub record Columned (f : List ℕ) (big : Bool) (at next w l : ℕ) (span : Span) (c : ℕ) (typs counts starts lens : List ℕ) : Type 0 where

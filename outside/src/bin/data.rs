@@ -17,6 +17,9 @@ use std::path::Path;
 /// No file above this size is kept.
 const LARGEST: usize = 4000;
 
+/// A change of a file, by name.
+type Change<T> = (&'static str, fn(&mut T));
+
 fn main() {
     let mut arguments = std::env::args().skip(1);
     let folder = arguments.next().expect("data DIR [SEED]");
@@ -24,9 +27,9 @@ fn main() {
     let folder = Path::new(&folder);
     let mut files = clauses(seed);
     files.extend(marked());
-    files.extend(tiled());
-    files.extend(mosaics());
-    files.extend(masked());
+    files.extend(changed("tiled", tiles, &TILED, &TILED_BYTES));
+    files.extend(changed("mosaic", mosaic, &[], &MOSAIC_BYTES));
+    files.extend(changed("masked", mask, &MASKED, &MASKED_BYTES));
     files.extend(mixed(seed));
     files.extend(real(&Path::new(env!("CARGO_MANIFEST_DIR")).join("field")));
     write(folder, &files).expect("the files are written");
@@ -84,7 +87,7 @@ fn tiles(order: Order) -> Plan {
 }
 
 /// Changes of the tags and of the key header of that file.
-const TILED: [(&str, fn(&mut Plan)); 11] = [
+const TILED: [Change<Plan>; 11] = [
     ("as-it-is", |_| ()),
     ("one-tile-of-the-largest-size", |plan| {
         plan.set(Tag::longs(322, &[4_294_967_280]));
@@ -105,7 +108,7 @@ const TILED: [(&str, fn(&mut Plan)); 11] = [
 ];
 
 /// Changes of single bytes of that file.
-const TILED_BYTES: [(&str, fn(&mut Laid)); 3] = [
+const TILED_BYTES: [Change<Laid>; 3] = [
     ("27-neither--next-offset-8", |laid| {
         // no rule asks for 318 to 321
         for (tag, other) in [(322, 318), (323, 319), (324, 320), (325, 321)] {
@@ -116,24 +119,6 @@ const TILED_BYTES: [(&str, fn(&mut Laid)); 3] = [
     ("13-past-n", |laid| laid.put_long(laid.spot(324).value + 20, laid.n() as u32 - 5)),
     ("14-directory", |laid| laid.put_long(laid.spot(324).value + 8, laid.directory as u32)),
 ];
-
-/// The file of tiles and its changes, in both byte orders.
-fn tiled() -> BTreeMap<String, Vec<u8>> {
-    let mut files: BTreeMap<String, Vec<u8>> = BTreeMap::new();
-    for (order, mark) in [(Order::Little, "II"), (Order::Big, "MM")] {
-        for (name, change) in TILED {
-            let mut plan = tiles(order);
-            change(&mut plan);
-            files.insert(format!("tiled-{name}-{mark}"), plan.lay().bytes);
-        }
-        for (name, change) in TILED_BYTES {
-            let mut laid = tiles(order).lay();
-            change(&mut laid);
-            files.insert(format!("tiled-{name}-{mark}"), laid.bytes);
-        }
-    }
-    files
-}
 
 /// Sets the tags of the three metadata entries.
 fn renamed(laid: &mut Laid, tags: [u16; 3]) {
@@ -147,9 +132,18 @@ fn tile_on(laid: &mut Laid, text: usize) {
     laid.put_short(laid.spot(325).value, 1);
 }
 
-/// Changes of single bytes of the file of tiles with three metadata tags, of
-/// which the second is in its entry.
-const MOSAIC_BYTES: [(&str, fn(&mut Laid)); 19] = [
+/// The file of tiles with three metadata tags, of which the second is in its
+/// entry.
+fn mosaic(order: Order) -> Plan {
+    let mut plan = tiles(order);
+    for text in [&b"<first sheet/>"[..], b"two", b"<third/>"] {
+        plan.add(Tag::bytes(50909, 1, text));
+    }
+    plan
+}
+
+/// Changes of single bytes of that file.
+const MOSAIC_BYTES: [Change<Laid>; 19] = [
     ("as-it-is", |_| ()),
     ("50908-50909-50909", |laid| renamed(laid, [50908, 50909, 50909])),
     ("50909-50909-50910", |laid| renamed(laid, [50909, 50909, 50910])),
@@ -173,23 +167,6 @@ const MOSAIC_BYTES: [(&str, fn(&mut Laid)); 19] = [
     ("15-minor-revision-2", |laid| laid.put_short(laid.spot(34735).value + 4, 2)),
 ];
 
-/// That file and its changes, in both byte orders.
-fn mosaics() -> BTreeMap<String, Vec<u8>> {
-    let mut files: BTreeMap<String, Vec<u8>> = BTreeMap::new();
-    for (order, mark) in [(Order::Little, "II"), (Order::Big, "MM")] {
-        let mut plan = tiles(order);
-        for text in [&b"<first sheet/>"[..], b"two", b"<third/>"] {
-            plan.add(Tag::bytes(50909, 1, text));
-        }
-        for (name, change) in MOSAIC_BYTES {
-            let mut laid = plan.lay();
-            change(&mut laid);
-            files.insert(format!("mosaic-{name}-{mark}"), laid.bytes);
-        }
-    }
-    files
-}
-
 /// The file of tiles with a mask in two strips.
 fn mask(order: Order) -> Plan {
     let mut plan = Plan::mask_of(tiles(order));
@@ -205,7 +182,7 @@ fn strip_on(laid: &mut Laid, byte: usize) {
 }
 
 /// Changes of the mask's tags.
-const MASKED: [(&str, fn(&mut Plan)); 16] = [
+const MASKED: [Change<Plan>; 16] = [
     ("as-it-is", |_| ()),
     ("in-tiles", |plan| {
         plan.remove(278);
@@ -237,7 +214,7 @@ const MASKED: [(&str, fn(&mut Plan)); 16] = [
 ];
 
 /// Changes of single bytes of that file.
-const MASKED_BYTES: [(&str, fn(&mut Laid)); 18] = [
+const MASKED_BYTES: [Change<Laid>; 18] = [
     ("no-mask", |laid| laid.put_long(laid.pointer(), 0)),
     ("28-4-odd", |laid| laid.put_long(laid.pointer(), laid.directory as u32 + 1)),
     ("28-4-below-8", |laid| laid.put_long(laid.pointer(), 6)),
@@ -267,19 +244,25 @@ const MASKED_BYTES: [(&str, fn(&mut Laid)); 18] = [
     }),
 ];
 
-/// That file and its changes, in both byte orders.
-fn masked() -> BTreeMap<String, Vec<u8>> {
+/// A file and its changes, those of its tags and those of single bytes, in both
+/// byte orders.
+fn changed(
+    word: &str,
+    file: fn(Order) -> Plan,
+    of_tags: &[Change<Plan>],
+    of_bytes: &[Change<Laid>],
+) -> BTreeMap<String, Vec<u8>> {
     let mut files: BTreeMap<String, Vec<u8>> = BTreeMap::new();
     for (order, mark) in [(Order::Little, "II"), (Order::Big, "MM")] {
-        for (name, change) in MASKED {
-            let mut plan = mask(order);
+        for (name, change) in of_tags {
+            let mut plan = file(order);
             change(&mut plan);
-            files.insert(format!("masked-{name}-{mark}"), plan.lay().bytes);
+            files.insert(format!("{word}-{name}-{mark}"), plan.lay().bytes);
         }
-        for (name, change) in MASKED_BYTES {
-            let mut laid = mask(order).lay();
+        for (name, change) in of_bytes {
+            let mut laid = file(order).lay();
             change(&mut laid);
-            files.insert(format!("masked-{name}-{mark}"), laid.bytes);
+            files.insert(format!("{word}-{name}-{mark}"), laid.bytes);
         }
     }
     files

@@ -5,7 +5,7 @@
 //! Each is 4-byte numbers, the lowest byte first: length, verdict, place, the
 //! number of parts of the list, first byte and end of each; then the bytes.
 
-use outside::generator::{sample, targeted, Call};
+use outside::generator::{sample, targeted_files};
 use outside::reader::{judge, judgements, leads_on, reading_list, several_texts, Verdict};
 use std::collections::BTreeMap;
 use std::io::Write;
@@ -40,11 +40,10 @@ fn main() -> ExitCode {
         eprintln!("lists SEED MOST");
         return ExitCode::FAILURE;
     };
-    let plain = targeted(seed).into_iter().filter(|case| matches!(case.call, Call::Judge));
     let mixed = (0..MIXED).map(|number| sample(seed, number).file);
     let mut seen: BTreeMap<Kind, u64> = needed().map(|kind| (kind, 0)).collect();
     let mut bytes = Vec::new();
-    for file in mixed.chain(plain.map(|case| case.file)) {
+    for file in mixed.chain(targeted_files(seed)) {
         let count = seen.entry(kind(&file)).or_insert(0);
         *count += 1;
         if *count <= most {

@@ -1,7 +1,8 @@
 //! pieces COUNT BYTES [tiles] [texts] [mask] [big]: writes an accepted file of so
 //! many strips, or tiles, of so many bytes each to standard output; with `texts`
 //! one of strips between as many metadata tags as a directory has room for, with
-//! `mask` one of strips around a mask of as many.
+//! `mask` one of strips around a mask of as many, with both the former with a mask
+//! that lies on its strips.
 
 use outside::generator::large::{many_masked, many_pieces, many_texts, possible};
 use outside::reader::tables::Family;
@@ -25,7 +26,7 @@ fn main() -> ExitCode {
     }
     let file = match (said("texts"), said("mask"), family) {
         (false, false, _) => many_pieces(order, family, count, bytes),
-        (true, false, Family::Strips) => many_texts(order, count, bytes),
+        (true, masked, Family::Strips) => many_texts(order, count, bytes, masked),
         (false, true, Family::Strips) => many_masked(order, count, bytes, count, true),
         _ => {
             eprintln!("pieces: texts, or a mask, stand between strips alone");

@@ -75,7 +75,7 @@ fn write_all(folder: &Path) {
         }
     }
     for strips in [1_000, STRIPS] {
-        let file = many_texts(Order::Little, strips, PIECE as u32);
+        let file = many_texts(Order::Little, strips, PIECE as u32, false);
         write(folder, &format!("tags-{strips}"), [file].into_iter());
     }
     write(folder, "masked", (0..FILES as u64).map(|number| masked_sample(SEED, number).file));

@@ -51,31 +51,44 @@ fn with_hole(
 /// one or as many. The mask's directory, its values and its strips stand together:
 /// behind the picture, or, if `among`, in the middle of it. It keeps every rule.
 pub fn many_masked(order: Order, strips: u32, bytes: u32, masks: u32, among: bool) -> Vec<u8> {
-    let entries = 10;
     let far = if masks == 1 { 0 } else { 8 * masks };
-    let own = 2 + 12 * entries + 4;
     let before = if among { strips / 2 } else { strips };
     // one byte more, to start even
-    let hole = (before, 1 + own + far + masks);
+    let hole = (before, 1 + MASK + far + masks);
     let mut laid = with_hole(order, Family::Strips, (strips, bytes), hole);
     let picture = laid.n() as u32 - hole.1 - bytes * strips;
     let at = (picture + bytes * before).next_multiple_of(2);
-    let (values, first) = (at + own, at + own + far);
-    laid.put_long(laid.next(), at);
-    laid.put_short(at as usize, entries as u16);
-    let [offsets, counts] = if masks == 1 { [first, 1] } else { [values, values + 4 * masks] };
+    let (values, first) = (at + MASK, at + MASK + far);
+    let places = if masks == 1 { (first, 1) } else { (values, values + 4 * masks) };
+    put_mask(&mut laid, at, strips, masks, places);
+    for mask in 0..if masks == 1 { 0 } else { masks } {
+        laid.put_long((values + 4 * mask) as usize, first + mask);
+        laid.put_long((values + 4 * masks + 4 * mask) as usize, 1);
+    }
+    laid.bytes
+}
+
+/// The bytes of a mask's directory.
+const MASK: u32 = 2 + 12 * 10 + 4;
+
+/// Puts the directory of a mask in so many strips at a byte, and lets that of the
+/// image, which has so many rows, lead to it; what the entries of the offsets and of
+/// the byte counts hold is given.
+fn put_mask(laid: &mut Laid, at: u32, rows: u32, masks: u32, (offsets, counts): (u32, u32)) {
     let numbers = [
         (254, 4, 1, 4),
         (256, 4, 1, 4),
-        (257, 4, 1, strips),
+        (257, 4, 1, rows),
         (258, 3, 1, 1),
         (259, 3, 1, 1),
         (262, 3, 1, 4),
         (273, 4, masks, offsets),
         (277, 3, 1, 1),
-        (278, 4, 1, strips / masks),
+        (278, 4, 1, rows / masks),
         (279, 4, masks, counts),
     ];
+    laid.put_long(laid.next(), at);
+    laid.put_short(at as usize, numbers.len() as u16);
     for (entry, (tag, kind, count, number)) in (0..).zip(numbers) {
         let entry = at as usize + 2 + 12 * entry;
         laid.put_short(entry, tag);
@@ -84,19 +97,16 @@ pub fn many_masked(order: Order, strips: u32, bytes: u32, masks: u32, among: boo
         laid.put_long(entry + 8, 0);
         laid.put_number(entry + 8, kind == 4, 0, number);
     }
-    laid.put_long((at + own - 4) as usize, 0);
-    for mask in 0..if masks == 1 { 0 } else { masks } {
-        laid.put_long((values + 4 * mask) as usize, first + mask);
-        laid.put_long((values + 4 * masks + 4 * mask) as usize, 1);
-    }
-    laid.bytes
+    laid.put_long((at + MASK - 4) as usize, 0);
 }
 
 /// A file of so many strips (`possible`), of `bytes` bytes each, with as many
 /// metadata tags as a directory has room for. Every strip lies in the gap before
 /// one of their values, and the next in another. It keeps every rule; offsets
-/// and byte counts are LONG and stand at its end.
-pub fn many_texts(order: Order, strips: u32, bytes: u32) -> Vec<u8> {
+/// and byte counts are LONG and stand at its end. With `masked` these are also the
+/// offsets and byte counts of a mask, which lies on the picture and whose directory
+/// stands behind them.
+pub fn many_texts(order: Order, strips: u32, bytes: u32, masked: bool) -> Vec<u8> {
     let mut plan = frame(order, Family::Strips, strips);
     // the fewest tags that place a picture
     [284, 33550, 33922].iter().for_each(|&tag| plan.remove(tag));
@@ -112,8 +122,16 @@ pub fn many_texts(order: Order, strips: u32, bytes: u32) -> Vec<u8> {
     // a step that comes to every gap, since their number is a prime
     let gap = |strip: u32| gaps[(u64::from(strip) * 389 % gaps.len() as u64) as usize];
     let (offsets, byte_counts) = Family::Strips.places();
+    let start = laid.n() as u32;
+    let places = if strips == 1 { (gap(0), bytes) } else { (start, start + 4 * strips) };
     let laid = longs(laid, offsets, strips, gap);
-    longs(laid, byte_counts, strips, |_| bytes).bytes
+    let mut laid = longs(laid, byte_counts, strips, |_| bytes);
+    if masked {
+        let at = laid.n();
+        laid.bytes.resize(at + MASK as usize, 0);
+        put_mask(&mut laid, at as u32, strips, strips, places);
+    }
+    laid.bytes
 }
 
 /// A file without its pieces, and with no offsets and byte counts in it yet. A

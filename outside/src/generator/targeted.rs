@@ -170,3 +170,9 @@ pub fn targeted(seed: u64) -> Vec<Case> {
     }
     cases.list
 }
+
+/// The files of those that ask for the plain judgement.
+pub fn targeted_files(seed: u64) -> impl Iterator<Item = Vec<u8>> {
+    let plain = targeted(seed).into_iter().filter(|case| matches!(case.call, Call::Judge));
+    plain.map(|case| case.file)
+}

@@ -227,7 +227,7 @@ pub fn head(file: &[u8]) -> Result<(Order, u64), Refusal> {
 
 /// Rule 4: the directory's offset.
 fn rule4(file: &[u8], at: u64) -> Result<(), Refusal> {
-    if at % 2 != 0 {
+    if !at.is_multiple_of(2) {
         return refuse(4, 0, "odd");
     }
     if at < 8 {
