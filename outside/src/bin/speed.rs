@@ -58,9 +58,9 @@ const MASKED: u32 = 40_000;
 
 /// The mix with every second file damaged, drawn with at most one metadata
 /// tag and of minor revision 0, the same of each byte order alone, one file each
-/// of many strips and of many tiles, and files of many metadata tags. Then files
-/// with a mask: a mix, and some of many strips with the mask behind these or among
-/// them, in one strip or in as many.
+/// of many strips and of many tiles, and files of many metadata tags, one of them
+/// with a mask on its strips. Then files with a mask: a mix, and some of many strips
+/// with the mask behind these or among them, in one strip or in as many.
 fn write_all(folder: &Path) {
     let mix = || (0..).map(|number| plain_sample(SEED, number).file);
     let of_order = |mark: u8| mix().filter(move |file| file.first() == Some(&mark));
@@ -74,9 +74,11 @@ fn write_all(folder: &Path) {
             write(folder, &name, [file].into_iter());
         }
     }
-    for strips in [1_000, STRIPS] {
-        let file = many_texts(Order::Little, strips, PIECE as u32, false);
-        write(folder, &format!("tags-{strips}"), [file].into_iter());
+    for (name, strips, masked) in
+        [("tags", 1_000, false), ("tags", STRIPS, false), ("covered", STRIPS, true)]
+    {
+        let file = many_texts(Order::Little, strips, PIECE as u32, masked);
+        write(folder, &format!("{name}-{strips}"), [file].into_iter());
     }
     write(folder, "masked", (0..FILES as u64).map(|number| masked_sample(SEED, number).file));
     for (name, masks, among) in [("behind", 1, false), ("among", 1, true), ("masks", MASKED, false)]
