@@ -36,16 +36,7 @@ pub mod Computed
 pub mod Spelled
 pub mod Files
 pub mod Marked
-pub mod FileC
-pub mod Placed
-pub mod Faults
 pub mod Boundaries
-pub mod TagBoundaries
-pub mod KeyBoundaries
-pub mod Tiled
-pub mod Repeated
-pub mod Revised
-pub mod Masked
 pub mod Tables
 -- laws that the proofs of code cite
 pub mod Laws

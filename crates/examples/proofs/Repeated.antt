@@ -6,20 +6,20 @@ use mathlib.Core.Bool.{Bool, true, false}
 use mathlib.Core.List.{List, [], _∷_, _++_, map}
 use lib.ListN.{length}
 use lib.Seq.{sets}
 use Rattle.paper.specs.Bytes.{enc}
 use Rattle.paper.specs.Outcome.{verdict}
 use Rattle.paper.specs.Pieces.{part}
 use Rattle.paper.specs.Places.{pairsFrom, pairs}
 use Rattle.paper.specs.Judge.{verdictOf}
 use Rattle.paper.specs.Calls.{textOf, metadataText}
 use Rattle.paper.proofs.Computed.{computed}
 use Rattle.paper.proofs.Spelled.{spelled, spelled-same, table-spelled}
 use Rattle.paper.proofs.Once.{rule6Once, misfitsOnce, rule10Once, entryRulesOnce, directoryOnce, tableRulesOnce, pictureOnce, verdictOnce, repeated, repeats, verdict-once}
 use Rattle.paper.proofs.Marked.{Allowed, allowedOf}
 use Rattle.paper.proofs.Files.{bytes, laid, front, scale, tiepoint, keysA, strip}
-use Rattle.paper.proofs.FileC.{fileC, text}
+use Rattle.examples.proofs.FileC.{fileC, text}
 use Rattle.paper.specs.declared.Verdict.{Verdict}
 use Rattle.paper.specs.declared.Text.{Text}
 
 -- ---- file M
 

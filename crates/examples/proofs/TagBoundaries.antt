@@ -6,12 +6,12 @@ use mathlib.Core.Bool.{true, false, cond}
 use mathlib.Core.List.{List, [], _∷_, _++_, map}
 use lib.Dec.{eqb}
 use lib.ListN.{replicate, take}
-use Rattle.paper.specs.Outcome.{kept, broken}
 use Rattle.paper.specs.Tests.{keep}
 use Rattle.paper.specs.Tags.{Line, line, table, maskTable, no, any, listed, Held, rule27, offsetsTag, byteCountsTag, roundedUp, fitsLine}
 use Rattle.paper.specs.Pieces.{part, shares, fullList, Piece, rule13, rule14}
+use Rattle.paper.specs.declared.Outcome.the-variants.{Kept as kept, Broken as broken}
 use Rattle.paper.proofs.Computed.{computed}
 use Rattle.paper.proofs.Boundaries.{to, entered}
 
 pub tags : map (λ l. l .tag) table
     ≡ 256 ∷ 257 ∷ 258 ∷ 259 ∷ 262 ∷ 273 ∷ 277 ∷ 278 ∷ 279 ∷ 284 ∷ 322 ∷ 323 ∷ 324 ∷ 325 ∷ 33550 ∷ 33922 ∷ 34264 ∷ 34735 ∷ 34736 ∷ 34737 ∷ 50909 ∷ []

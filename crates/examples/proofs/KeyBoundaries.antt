@@ -6,15 +6,16 @@ use mathlib.Core.Bool.{Bool, true, false}
 use mathlib.Core.List.{List, [], _∷_, _++_, map}
 use lib.ListN.{length, replicate, take}
 use lib.Seq.{sets}
-use Rattle.paper.specs.Outcome.{Outcome, kept, broken}
 use Rattle.paper.specs.Tests.{keep}
 use Rattle.paper.specs.Keys.{Runs, keys, rule15, rule16, rule17, rule18, rule19}
 use Rattle.paper.specs.Ground.{Survey, rule21}
 use Rattle.paper.specs.Calls.{rule23}
 use Rattle.paper.specs.Block.{encs, tooFar, rule24}
 use Rattle.paper.proofs.Computed.{computed}
 use Rattle.paper.proofs.Boundaries.{to}
 use Rattle.paper.specs.declared.KeyEntry.{KeyEntry}
+use Rattle.paper.specs.declared.Outcome.{Outcome}
+use Rattle.paper.specs.declared.Outcome.the-variants.{Kept as kept, Broken as broken}
 
 -- ---- the key directory
 

@@ -6,16 +6,17 @@ use mathlib.Core.Bool.{true, false}
 use mathlib.Core.List.{List, [], _∷_, _++_, map}
 use lib.ListN.{length, replicate}
 use lib.Seq.{sets}
 use Rattle.paper.specs.Bytes.{enc, build}
 use Rattle.paper.specs.Outcome.{verdict}
-use Rattle.paper.specs.Pieces.{Part, part}
+use Rattle.paper.specs.Pieces.{part}
 use Rattle.paper.specs.Judge.{verdictOf, readingList}
 use Rattle.paper.specs.Block.{joined}
 use Rattle.paper.specs.Asked.{onList}
+use Rattle.paper.specs.declared.Part.{Part}
 use Rattle.paper.proofs.Computed.{computed}
 use Rattle.paper.proofs.Spelled.{spelled, spelled-same, table-spelled}
 use Rattle.paper.proofs.Kept.{among, always, before, rule12Before, strips, rulesBefore, verdictBefore, carries, verdict-kept}
 use Rattle.paper.proofs.Marked.{fileA, shorts, longs, entry, head, ground, keys, halves, area, accepted, refused, Example, answered, Reading, reading, allowedOf}
 
 -- ---- file T
 

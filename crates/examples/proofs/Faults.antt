@@ -6,16 +6,16 @@ use mathlib.Core.Bool.{true, false, not}
 use mathlib.Core.List.{List, [], _∷_, _++_, map}
 use lib.Dec.{eqb}
 use lib.Seq.{sets}
 use Rattle.paper.specs.Bytes.{enc}
 use Rattle.paper.specs.Outcome.{verdict}
 use Rattle.paper.specs.Tests.{some, keep}
 use Rattle.paper.specs.Judge.{verdictOf}
 use Rattle.paper.proofs.Computed.{computed}
 use Rattle.paper.proofs.Spelled.{spelled, table-spelled}
 use Rattle.paper.proofs.Marked.{changed}
 use Rattle.paper.proofs.Files.{Field, shorts, doubles, laid, front, scale, tiepoint, key, directory, keysA, fieldsA, strip}
-use Rattle.paper.proofs.Placed.{placed, turned}
+use Rattle.examples.proofs.Placed.{placed, turned}
 use Rattle.paper.specs.declared.Verdict.{Verdict}
 
 -- a file, and its verdict
 pub record Example : Type 0 where

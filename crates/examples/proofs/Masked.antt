@@ -7,21 +7,22 @@ use mathlib.Core.List.{List, [], _∷_, _++_, map}
 use lib.Dec.{eqb}
 use lib.ListN.{length, replicate, take}
 use lib.Seq.{sets}
 use Rattle.paper.specs.Bytes.{enc, build}
 use Rattle.paper.specs.Outcome.{verdict}
 use Rattle.paper.specs.Tests.{keep}
-use Rattle.paper.specs.Pieces.{Part, part}
+use Rattle.paper.specs.Pieces.{part}
 use Rattle.paper.specs.Judge.{verdictOf, readingList}
 use Rattle.paper.specs.Calls.{rowsOf, citedOf, textOf}
 use Rattle.paper.specs.Block.{blockOf}
 use Rattle.paper.specs.Asked.{onList}
 use Rattle.paper.proofs.Computed.{computed}
 use Rattle.paper.proofs.Spelled.{spelled, spelled-same, table-spelled}
 use Rattle.paper.proofs.Marked.{area, accepted, refused, Example as Answered, answered, whole}
 use Rattle.paper.proofs.Files.{Field, bytes, shorts, longs, laid, followed, fieldsA, strip}
-use Rattle.paper.proofs.Faults.{Example}
-use Rattle.paper.proofs.Tiled.{fileT}
+use Rattle.examples.proofs.Faults.{Example}
+use Rattle.examples.proofs.Tiled.{fileT}
 use Rattle.paper.specs.declared.Verdict.{Verdict}
+use Rattle.paper.specs.declared.Part.{Part}
 
 -- ---- file N
 

@@ -6,19 +6,19 @@ use mathlib.Core.Bool.{Bool, true, false}
 use mathlib.Core.List.{List, [], _∷_, _++_, map}
 use lib.ListN.{take, drop, replicate}
 use lib.Seq.{sets}
 use Rattle.paper.specs.Bytes.{enc}
 use Rattle.paper.specs.Outcome.{verdict}
 use Rattle.paper.specs.Judge.{verdictOf}
 use Rattle.paper.specs.Calls.{judgedOf, rowsLeft, readBack}
 use Rattle.paper.specs.Block.{blockLeft}
 use Rattle.paper.proofs.Computed.{computed}
 use Rattle.paper.proofs.Spelled.{spelled, spelled-same, table-spelled}
 use Rattle.paper.proofs.Minor.{wrongZero, keyRulesZero, verdictZero}
 use Rattle.paper.proofs.Marked.{changed, row}
 use Rattle.paper.proofs.Files.{written}
-use Rattle.paper.proofs.FileC.{fileC, blockC, blockDirectoryC, blockDoublesC, blockCharactersC, reads, Answers, answered, answersC}
+use Rattle.examples.proofs.FileC.{fileC, blockC, blockDirectoryC, blockDoublesC, blockCharactersC, reads, Answers, answered, answersC}
 use Rattle.paper.specs.declared.Row.{Row}
 use Rattle.paper.specs.declared.Verdict.{Verdict}
 
 -- ---- file C with another minor revision
 
