@@ -1,6 +1,6 @@
 // Where the picture of an image and that of its mask may lie: rules 13 and 14 of the mask. The full reading list is that of both directories, and neither
 // picture may share a byte with it. The image's own picture is clear of the image's own list, so that three of the four cases are left: the mask's places
-// against both lists, and the image's against the mask's.
+// against both lists, and the image's against the mask's. `SLOTS` is of the image's table, `table::SLOTS` of the mask's.
 ghost use mathlib.Core.Path.{_≡_};
 ghost use mathlib.Core.List.{_++_};
 ghost use Prim.Native.Nat.{_*_, _≤_};
@@ -14,6 +14,7 @@ ghost use Rattle.tags.specs.Index.{many};
 ghost use Rattle.tags.specs.Tagging.{viewOf};
 ghost use Rattle.crossing.specs.Pictures.{maskMany, runsAt, placesIn, Image, Mask, picturesOf, Among, Standing, Spanned, Listing, Inside, maskList, bothLists};
 use layout::Further;
+use mask::table;
 use paper::Part;
 use pieces::Placed;
 use pieces::Span;
@@ -138,7 +139,7 @@ fn mask_crosses(
         return true;
     }
     let none = layout::value(file, 0, 0);
-    if crosses(file, big, p, span, starts, lens, mask::table::SLOTS, none, 0) {
+    if crosses(file, big, p, span, starts, lens, table::SLOTS, none, 0) {
         return true;
     }
     let froms = [0, at, mat];
@@ -161,7 +162,7 @@ fn image_crosses(
     ensures { λ r. ⌜ r ≡ some (touches (maskList mat mc (now (mstarts .entry)) (now (mlens .entry)))) (placesIn (now (file .entry)) big p) ⌝ }
 {
     let none = layout::value(file, 0, 0);
-    if crosses(file, big, p, span, mstarts, mlens, mask::table::SLOTS, none, 0) {
+    if crosses(file, big, p, span, mstarts, mlens, table::SLOTS, none, 0) {
         return true;
     }
     let froms = [mat];
@@ -189,10 +190,10 @@ pub fn judge_pictures(
     mc: usize,
     ma: usize,
     mb: usize,
-    typs: &[u32; mask::table::SLOTS],
-    counts: &[u32; mask::table::SLOTS],
-    starts: &[usize; mask::table::SLOTS],
-    lens: &[usize; mask::table::SLOTS],
+    typs: &[u32; table::SLOTS],
+    counts: &[u32; table::SLOTS],
+    starts: &[usize; table::SLOTS],
+    lens: &[usize; table::SLOTS],
     width: u32,
     length: u32,
 ) -> u32
