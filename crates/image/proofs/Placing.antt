@@ -21,7 +21,6 @@ use Rattle.paper.specs.declared.Outcome.the-variants.{Kept as kept}
 use Rattle.paper.specs.declared.Part.{Part}
 use Rattle.paper.specs.declared.Entry.{Entry}
 use Rattle.paper.specs.Judge.{View, piecesOf, fullOf, pieceRules}
-use Rattle.paper.proofs.Bounds.{table-named}
 use Rattle.layout.specs.Repeats.{entriesFrom}
 use Rattle.layout.specs.declared.Further.{Further}
 use Rattle.tags.specs.Index

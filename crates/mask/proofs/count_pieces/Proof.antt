@@ -1,8 +1,6 @@
 -- `count_pieces` is the number of strips, or the tiles across times the tiles down; no product of the two is too large. Assumes nothing.
 use Rattle.tags.proofs.Values.{product-fits}
 use Rattle.mask.specs.Values.{piecesBy}
-use Rattle.tags.proofs.Values.{product-fits}
-use Rattle.mask.specs.Values.{piecesBy}
 use borrow.Author.Needs.{needs}
 use Rattle.mask.proofs.count_pieces.Statement.{statement}
 use Rattle.mask.proofs.count_pieces.Tie as tie

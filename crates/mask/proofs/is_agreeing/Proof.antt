@@ -1,8 +1,6 @@
 -- `is_agreeing` makes three tests. Assumes nothing.
 use mathlib.Core.Path.{refl}
 use Rattle.mask.specs.Values.{agrees}
-use mathlib.Core.Path.{refl}
-use Rattle.mask.specs.Values.{agrees}
 use Rattle.mask.proofs.is_agreeing.Statement.{statement}
 use Rattle.mask.proofs.is_agreeing.Tie as tie
 

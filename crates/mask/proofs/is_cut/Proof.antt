@@ -1,6 +1,5 @@
 -- `is_cut` tests each number by which a picture is cut. Assumes nothing.
 use Rattle.mask.specs.Values.{cutAllowed}
-use Rattle.mask.specs.Values.{cutAllowed}
 use borrow.Author.Needs.{needs}
 use Rattle.mask.proofs.is_cut.Statement.{statement}
 use Rattle.mask.proofs.is_cut.Tie as tie

@@ -1,6 +1,5 @@
 -- `is_plain` fetches five numbers and tests each. Assumes nothing.
 use Rattle.mask.specs.Values.{plainIn}
-use Rattle.mask.specs.Values.{plainIn}
 use borrow.Author.Needs.{needs}
 use Rattle.mask.proofs.is_plain.Statement.{statement}
 use Rattle.mask.proofs.is_plain.Tie as tie

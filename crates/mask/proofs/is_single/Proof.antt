@@ -1,6 +1,5 @@
 -- `is_single` goes by what the values of 258 say. Assumes nothing.
 use Rattle.mask.specs.Values.{singleIn, allOne}
-use Rattle.mask.specs.Values.{singleIn, allOne}
 use borrow.Author.Needs.{needs}
 use Rattle.mask.proofs.is_single.Statement.{statement}
 use Rattle.mask.proofs.is_single.Tie as tie

@@ -1,6 +1,5 @@
 -- `is_sized` fetches width and length and compares them. Assumes nothing.
 use Rattle.mask.specs.Values.{sizedIn}
-use Rattle.mask.specs.Values.{sizedIn}
 use borrow.Author.Needs.{needs}
 use Rattle.mask.proofs.is_sized.Statement.{statement}
 use Rattle.mask.proofs.is_sized.Tie as tie

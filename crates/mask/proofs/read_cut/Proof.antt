@@ -1,6 +1,5 @@
 -- `read_cut` fetches the rows of a strip, or the sides of a tile. Assumes nothing.
 use Rattle.mask.specs.Values.{cutIn}
-use Rattle.mask.specs.Values.{cutIn}
 use borrow.Author.Needs.{needs}
 use Rattle.mask.proofs.read_cut.Statement.{statement}
 use Rattle.mask.proofs.read_cut.Tie as tie
