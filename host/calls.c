@@ -74,7 +74,8 @@ static void ask_rows(const void *from, petalbuzz_row *to, size_t room) {
     for (size_t i = 0; i < sizeof rows; i++)
         if (((const uint8_t *)rows)[i] != UNTOUCHED) end = i / sizeof rows[0] + 1;
     for (size_t i = 0; i < end; i++)
-        printf("  %u %u %u %u\n", rows[i].key, rows[i].kind, rows[i].first, rows[i].length);
+        printf("  %u %u %u %u %u\n", rows[i].key, rows[i].kind, rows[i].first, rows[i].length,
+               rows[i].entry);
 }
 
 /* Prints how many bytes the call has changed, up to the last one. */

@@ -8,7 +8,7 @@
 #include "files.h"
 #include "words.h"
 
-enum { MOST_KEYS = 256, MODEL_TYPE = 1024, RASTER_TYPE = 1025 };
+enum { MOST_KEYS = 256, RASTER_TYPE = 1025 };
 enum { MOST_TEXTS = 1024 }; /* a directory has no more entries */
 enum { DOUBLES = 34736, CHARACTERS = 34737 }; /* locations */
 
@@ -69,15 +69,12 @@ static const uint8_t *part(const struct whole *file, size_t first, size_t length
     return (const uint8_t *)file->bytes + first;
 }
 
-/* The location of a key of kind other, from its entry. An entry has 8 bytes, the
- * rows have the entries' order, and the value of key 1024, which every accepted
- * file has, is the last number of its own. Answers null if the file has changed. */
-static const uint8_t *location_of(const struct whole *file, const struct found *f, uint32_t row) {
-    uint32_t model = 0;
-    while (model < f->keys && f->rows[model].key != MODEL_TYPE) model++;
-    if (model == f->keys) return NULL;
-    const uint8_t *entry = part(file, f->rows[model].first - 6 - 8 * (size_t)model + 8 * (size_t)row, 8);
-    return entry && number_in(f, entry) == f->rows[row].key ? entry + 2 : NULL;
+/* The location of a key of kind other, the second number of its entry. Answers null if
+ * the file has changed. */
+static const uint8_t *location_of(const struct whole *file, const struct found *f,
+                                  const petalbuzz_row *row) {
+    const uint8_t *entry = part(file, row->entry, 8);
+    return entry && number_in(f, entry) == row->key ? entry + 2 : NULL;
 }
 
 /* Finds what the value of a row means. Of a key that only some values are allowed
@@ -98,7 +95,7 @@ static int find_value(const struct whole *file, struct found *f, uint32_t i) {
     value->length = row->length;
     value->form = row->kind == PETALBUZZ_DOUBLE ? REALS : row->kind == PETALBUZZ_ASCII ? TEXT : NUMBERS;
     if (row->kind == PETALBUZZ_OTHER) {
-        const uint8_t *location = location_of(file, f, i);
+        const uint8_t *location = location_of(file, f, row);
         if (!location) return 0;
         if (number_in(f, location) == DOUBLES) value->form = REALS;
         if (number_in(f, location) == CHARACTERS) value->form = TEXT;

@@ -53,7 +53,18 @@ static void add_revision(struct record *to, const struct found *f) {
     add(to, "\n");
 }
 
-/* A line for each key: number, name, kind, place, value and what it means. */
+/* A place in the file, and in brackets as a hex viewer shows it. */
+static void add_place(struct record *to, uint32_t place) {
+    uint8_t bytes[4];
+    for (int i = 0; i < 4; i++) bytes[i] = (uint8_t)(place >> (24 - 8 * i));
+    add_number(to, place);
+    add(to, " (0x");
+    add_hex(to, "", bytes, sizeof bytes);
+    add(to, ")");
+}
+
+/* A line for each key: number, name, kind, where its entry and its value stand, the
+ * value and what it means. */
 static void add_keys(struct record *to, const struct found *f) {
     for (uint32_t i = 0; i < f->keys; i++) {
         const petalbuzz_row *row = &f->rows[i];
@@ -66,7 +77,9 @@ static void add_keys(struct record *to, const struct found *f) {
         pad(to, line, 49);
         add(to, kind_names[row->kind]);
         pad(to, line, 56);
-        add(to, "at ");
+        add(to, "entry at ");
+        add_place(to, row->entry);
+        add(to, ", value at ");
         add_number(to, row->first);
         add(to, ", ");
         add_number(to, row->length);
@@ -166,7 +179,7 @@ static struct told tell_plain(struct record *to, const char *path, const struct 
         add_line(to, &a.keys, 1);
     }
     for (uint32_t i = 0; i < a.keys; i++) {
-        uint32_t row[] = {rows[i].key, rows[i].kind, rows[i].first, rows[i].length};
+        uint32_t row[] = {rows[i].key, rows[i].kind, rows[i].first, rows[i].length, rows[i].entry};
         add_line(to, row, sizeof row / sizeof row[0]);
     }
     return (struct told){{a.verdict, a.place}, NULL};
@@ -265,6 +278,7 @@ static void add_json_keys(struct record *to, const struct found *f) {
         add_json_word(to, "kind", kind_names[row->kind]);
         add_json_number(to, ",", "first", row->first);
         add_json_number(to, ",", "length", row->length);
+        add_json_number(to, ",", "entry", row->entry);
         add(to, ",");
         add_json_value(to, f, &f->values[i]);
         add_json_word(to, "meaning", meaning[0] ? meaning : NULL);

@@ -101,6 +101,7 @@ typedef struct petalbuzz_row {
     uint32_t kind;   /* as petalbuzz_kind has it */
     uint32_t first;  /* the value's first byte in the file */
     uint32_t length; /* in bytes */
+    uint32_t entry;  /* the first of the 8 bytes of the key's entry, wherever its value is */
 } petalbuzz_row;
 
 /* The symbols of the library. No pointer is null: an empty run has some

@@ -31,9 +31,9 @@ fn file_a_is_accepted_with_its_corners() {
 fn file_a_gives_the_lines_of_the_bench_program() {
     let mut lent = [UNTOUCHED; 256];
     assert_eq!(key_rows(&FILE_A, &mut lent), (verdict(0, 0), 3));
-    assert_eq!(lent[0], row(1024, 0, 244, 2));
-    assert_eq!(lent[1], row(1025, 0, 252, 2));
-    assert_eq!(lent[2], row(3072, 0, 260, 2));
+    assert_eq!(lent[0].to_string(), "1024 0 244 2 238");
+    assert_eq!(lent[1].to_string(), "1025 0 252 2 246");
+    assert_eq!(lent[2].to_string(), "3072 0 260 2 254");
     assert!(lent[3..].iter().all(|row| *row == UNTOUCHED));
 }
 

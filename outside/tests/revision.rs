@@ -230,8 +230,10 @@ fn an_array_may_have_the_minor_revision_as_a_value() {
             let own = keys().with(60_001, Held::Raw(34735, count, index));
             let keys = own.encode().of_minor(minor);
             for laid in plans(&keys).iter().map(Plan::lay) {
-                let start = laid.spot(34735).value as u32 + 2 * u32::from(index);
-                assert_eq!(rows(&laid.bytes)[3], row(60_001, 3, start, 2 * u32::from(count)));
+                let start = laid.spot(34735).value as u32;
+                let first = start + 2 * u32::from(index);
+                let expected = [60_001, 3, first, 2 * u32::from(count), start + 32];
+                assert_eq!(rows(&laid.bytes)[3].numbers(), expected);
                 let (numbers, back) = written(&laid.bytes);
                 assert_eq!(numbers[..4], [1, 1, minor, 4]);
                 assert_eq!(numbers[16..20], [60_001, 34_735, count, 20]);

@@ -41,18 +41,19 @@ fn a_key_index_counts_elements() {
         let mut lent = [UNTOUCHED; 9];
         assert_eq!(key_rows(&laid.bytes, &mut lent), (verdict(0, 0), 9));
         let start = |tag: u16| laid.spot(tag).value as u32;
+        let entry = |position: u32| start(34735) + 8 + 8 * position;
         let expected = [
-            row(1024, 0, start(34735) + 14, 2),
-            row(1025, 0, start(34735) + 22, 2),
-            row(1026, 2, start(34737), 6),
-            row(2057, 1, start(34736), 8),
-            row(3072, 0, start(34735) + 46, 2),
-            row(3080, 1, start(34736) + 8, 8),
-            row(3090, 1, start(34736) + 16, 8),
-            row(4097, 2, start(34737) + 6, 7),
-            row(60001, 3, start(34735) + 2 * 40, 6),
+            [1024, 0, start(34735) + 14, 2, entry(0)],
+            [1025, 0, start(34735) + 22, 2, entry(1)],
+            [1026, 2, start(34737), 6, entry(2)],
+            [2057, 1, start(34736), 8, entry(3)],
+            [3072, 0, start(34735) + 46, 2, entry(4)],
+            [3080, 1, start(34736) + 8, 8, entry(5)],
+            [3090, 1, start(34736) + 16, 8, entry(6)],
+            [4097, 2, start(34737) + 6, 7, entry(7)],
+            [60001, 3, start(34735) + 2 * 40, 6, entry(8)],
         ];
-        assert_eq!(lent, expected);
+        assert_eq!(lent.map(|row| row.numbers()), expected);
         let cited = citation(&laid.bytes, 4097);
         assert_eq!(&laid.bytes[cited.start..cited.start + cited.length], b"second");
     }

@@ -55,17 +55,17 @@ fileC big = laid big fieldsC strip
 unfoldable pub rowsC : List Row
 unfolding row
 rowsC =
-    row 1024 0 280 2
-    ∷ row 1025 0 288 2
-    ∷ row 1026 2 388 3
-    ∷ row 2049 2 384 4
-    ∷ row 2057 1 376 8
-    ∷ row 3072 0 320 2
-    ∷ row 5000 3 364 4
-    ∷ row 5001 3 364 2
-    ∷ row 5002 3 389 2
-    ∷ row 5003 3 368 16
-    ∷ row 5004 3 360 2
+    row 1024 0 280 2 274
+    ∷ row 1025 0 288 2 282
+    ∷ row 1026 2 388 3 290
+    ∷ row 2049 2 384 4 298
+    ∷ row 2057 1 376 8 306
+    ∷ row 3072 0 320 2 314
+    ∷ row 5000 3 364 4 322
+    ∷ row 5001 3 364 2 330
+    ∷ row 5002 3 389 2 338
+    ∷ row 5003 3 368 16 346
+    ∷ row 5004 3 360 2 354
     ∷ []
 
 -- ---- the key block
@@ -135,7 +135,7 @@ unfoldable pub answered : ℕ → ℕ → List ℕ → Answers
 answered rows bytes f =
     record {
       counted = map (rowsOf f) (0 ∷ 10 ∷ 11 ∷ []);
-      rows = rowsLeft f (replicate rows (row 7 7 7 7));
+      rows = rowsLeft f (replicate rows (row 7 7 7 7 7));
       cited = map (citedOf f) (1026 ∷ 2049 ∷ 3073 ∷ 5002 ∷ 1024 ∷ []);
       citations = map (citation f) (1026 ∷ 2049 ∷ 3073 ∷ []);
       texts = map (λ k. textOf f k 3) (0 ∷ 1 ∷ []);
@@ -168,7 +168,7 @@ pub little-C : answered 11 138 (fileC false) ≡ answersC [] (5 ∷ 5 ∷ 5 ∷ 
 unfolding fileC answered answersC row spelled computed
 little-C = spelled-same (fileC false) (answered 11 138)
 
-pub big-C : answered 12 135 (fileC true) ≡ answersC (row 7 7 7 7 ∷ []) []
+pub big-C : answered 12 135 (fileC true) ≡ answersC (row 7 7 7 7 7 ∷ []) []
 unfolding fileC answered answersC row spelled computed
 big-C = spelled-same (fileC true) (answered 12 135)
 
@@ -208,7 +208,7 @@ far-block = spelled-same sharing (λ f. blockOf f 4)
 pub answers-A : answered 2 4 fileA
     ≡ record {
       counted = counts 23 3 0 ∷ counts 0 0 3 ∷ counts 0 0 3 ∷ [];
-      rows = row 7 7 7 7 ∷ row 7 7 7 7 ∷ [];
+      rows = row 7 7 7 7 7 ∷ row 7 7 7 7 7 ∷ [];
       cited = map (λ k. cites 26 k 0 0) (1026 ∷ 2049 ∷ 3073 ∷ 5002 ∷ 1024 ∷ []);
       citations = [] ∷ [] ∷ [] ∷ [];
       texts = text 0 0 1 0 3 ∷ text 29 1 0 0 0 ∷ [];
@@ -226,7 +226,7 @@ unfolding counts cites text lengths row
 nothing n p =
     record {
       counted = replicate 3 (counts n p 0);
-      rows = replicate 4 (row 7 7 7 7);
+      rows = replicate 4 (row 7 7 7 7 7);
       cited = replicate 5 (cites n p 0 0);
       citations = replicate 3 [];
       texts = replicate 2 (text n p 0 0 0);

@@ -136,6 +136,6 @@ unfolding cases spelled computed
 judged = table-spelled (λ x. x .file) (λ x. judgedOf) (λ x. x .gives) cases refl
 
 -- the rows of A are those of the other byte order
-pub rows-big : rowsLeft (laid true fieldsA strip) (replicate 4 (row 7 7 7 7)) ≡ row 1024 0 244 2 ∷ row 1025 0 252 2 ∷ row 3072 0 260 2 ∷ row 7 7 7 7 ∷ []
+pub rows-big : rowsLeft (laid true fieldsA strip) (replicate 4 (row 7 7 7 7 7)) ≡ row 1024 0 244 2 238 ∷ row 1025 0 252 2 246 ∷ row 3072 0 260 2 254 ∷ row 7 7 7 7 7 ∷ []
 unfolding laid fieldsA strip spelled computed row
-rows-big = spelled-same (laid true fieldsA strip) (λ f. rowsLeft f (replicate 4 (row 7 7 7 7)))
+rows-big = spelled-same (laid true fieldsA strip) (λ f. rowsLeft f (replicate 4 (row 7 7 7 7 7)))

@@ -48,7 +48,7 @@ pub little-revised : answered 11 138 (revised false 1) ≡ answersRevised 1 [] (
 unfolding revised answered answersRevised row spelled computed
 little-revised = spelled-same (revised false 1) (answered 11 138)
 
-pub big-revised : answered 12 135 (revised true 1) ≡ answersRevised 1 (row 7 7 7 7 ∷ []) []
+pub big-revised : answered 12 135 (revised true 1) ≡ answersRevised 1 (row 7 7 7 7 7 ∷ []) []
 unfolding revised answered answersRevised row spelled computed
 big-revised = spelled-same (revised true 1) (answered 12 135)
 
@@ -104,10 +104,10 @@ unfoldable pub pointed : List ℕ
 unfolding revised written
 pointed = sets (revised true 1) 326 (written true 2 1 ++ written true 2 2)
 
--- its row names bytes 270 and 271
-pub own-row : drop 6 (take 7 (rowsLeft pointed (replicate 11 (row 7 7 7 7)))) ≡ row 5000 3 270 2 ∷ []
+-- its row names bytes 270 and 271, and its entry at 322
+pub own-row : drop 6 (take 7 (rowsLeft pointed (replicate 11 (row 7 7 7 7 7)))) ≡ row 5000 3 270 2 322 ∷ []
 unfolding pointed row spelled computed
-own-row = spelled-same pointed (λ f. drop 6 (take 7 (rowsLeft f (replicate 11 (row 7 7 7 7)))))
+own-row = spelled-same pointed (λ f. drop 6 (take 7 (rowsLeft f (replicate 11 (row 7 7 7 7 7)))))
 
 -- in the block 1 is its value, behind the entries, at 96, and 7 that of the next key
 pub own-value : take 4 (drop 96 (blockLeft pointed (replicate 134 5))) ≡ 1 ∷ 0 ∷ 7 ∷ 0 ∷ []

@@ -1,5 +1,5 @@
--- A key row at each location, as code makes it, and that its first byte is a number below 2 ^ 32 where rule 17 is kept and the three values lie
--- below that. Assumes nothing.
+-- A key row at each location, as code makes it, and that its first byte and its entry are numbers below 2 ^ 32 where rule 17 is kept and the three
+-- values lie below that. Assumes nothing.
 use Prim.Native.Nat.{ℕ, _+_, _*_, _≤_, _<_}
 use mathlib.Core.Path.{_≡_, refl, ap}
 use mathlib.Core.Bool.{Bool, true, false, cond, _&&_, _||_}
@@ -12,7 +12,7 @@ use borrow.Author.Tests.{eqb-true, eqb-false, ne-eqb, not-false}
 use Rattle.paper.specs.Tag
 use Rattle.paper.specs.Keys.{Runs, short, kindOf, room, within, inEntry, endsInBar, rightPlace, misplaced, keyAt, minorRevision, keyCount, keys, rule15, rule17, noKey}
 use Rattle.paper.specs.Bytes.{build}
-use Rattle.paper.specs.Calls.{Starts, rowOf}
+use Rattle.paper.specs.Calls.{Starts, entryPlace, rowOf}
 use Rattle.paper.specs.declared.KeyEntry.{KeyEntry}
 use Rattle.paper.specs.declared.Row.{Row}
 use Rattle.paper.specs.declared.Outcome.the-variants.{Kept as kept}
@@ -25,10 +25,10 @@ use Rattle.keys.proofs.Placed.{within-gives}
 
 module _ (s : Starts) (i : ℕ) (e e′ : KeyEntry) (same : e ≡ e′) where
   abbrev row : ℕ → ℕ → ℕ → Row
-  row k first len = record { key = e .key; kind = k; first = first; len = len }
+  row k first len = record { key = e .key; kind = k; first = first; len = len; entry = entryPlace s i }
 
   module _ (k : ℕ) (is-k : k ≡ kindOf (e .key)) (r : Row) where
-    pub entry-row : e .location ≡ 0 → r ≡ row k (s .directory + (8 * i + 14)) 2 → r ≡ rowOf s i e′
+    pub entry-row : e .location ≡ 0 → r ≡ row k (entryPlace s i + 6) 2 → r ≡ rowOf s i e′
     unfolding rowOf
     entry-row h q = rw (q, ← same, is-k, h)
 
@@ -49,9 +49,6 @@ module _ (s : Starts) (i : ℕ) (e e′ : KeyEntry) (same : e ≡ e′) where
   module _ (low : rowOf s i e′ .first < 4294967296) (n : ℕ) where
     below : (len : ℕ) → row (kindOf (e .key)) n len ≡ rowOf s i e′ → n < 4294967296
     below len q = omega (arith, ap (λ (r : Row). r .first) q)
-
-    pub entry-low : e .location ≡ 0 → n ≡ s .directory + (8 * i + 14) → n < 4294967296
-    entry-low h q = below 2 (entry-row (kindOf (e .key)) refl (row _ n 2) h (rw q))
 
     pub directory-low : e .location ≡ Tag.keyDirectory → n ≡ s .directory + 2 * e .index → n < 4294967296
     directory-low h q = below (2 * e .count) (directory-row (kindOf (e .key)) refl (row _ n _) h (rw q))
@@ -129,10 +126,10 @@ module _ (r : Runs) (s : Starts) (i : ℕ) (d-low : s .directory + length (r .di
 pub row-asks : (big : Bool) (d x t : List ℕ) (s : Starts) (i : ℕ) → s .directory + length d < 4294967296 → s .doubles + length x < 4294967296
     → s .characters + length t < 4294967296 → rule15 (runs big d x t) ≡ kept → rule17 (runs big d x t) (keys (runs big d x t)) ≡ kept
     → i < keyCount (runs big d x t)
-    → (i < 256) × (8 * i + 16 ≤ length d) × (rowOf s i (keyAt (runs big d [] []) i) .first < 4294967296)
+    → (i < 256) × (8 * i + 16 ≤ length d) × (entryPlace s i + 6 < 4294967296) × (rowOf s i (keyAt (runs big d [] []) i) .first < 4294967296)
 unfolding rule15 minorRevision keyCount short keyAt
 row-asks big d x t s i a b c p q l =
     let h = headed big d (rule15 (runs big d x t)) refl p in
     let few : i < 256 = omega (arith, h .few) in
     let here : 8 * i + 16 ≤ length d = omega (arith, h .whole) in
-    (few, here, row-low (runs big d x t) s i a b c here q l)
+    (few, here, omega arith, row-low (runs big d x t) s i a b c here q l)

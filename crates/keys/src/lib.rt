@@ -12,7 +12,7 @@ ghost use lib.Dec.{leb};
 ghost use lib.ListN.{length};
 ghost use Rattle.paper.specs.Tests.{just};
 ghost use Rattle.paper.specs.Keys.{kindOf, keyAt, room, inEntry, rightPlace};
-ghost use Rattle.paper.specs.Calls.{rowOf};
+ghost use Rattle.paper.specs.Calls.{entryPlace, rowOf};
 ghost use Rattle.keys.specs.Rows.{startsIn};
 ghost use Rattle.keys.specs.Table.{keyNumbers, keyKinds, slotOf};
 ghost use Rattle.keys.specs.Pass.{runs, headerOf, judged, keysJudged, entriesJudged, finished, askedKeys};
@@ -569,20 +569,21 @@ pub fn judge_keys(big: bool, directory: &[u8], doubles: &[u8], characters: &[u8]
 
 // ---- key rows
 
-// A row from its four numbers.
-fn row_of(key: usize, kind: u32, first: usize, len: usize) -> Row
-    requires { ⌜ (key < 65536) × (first < 4294967296) × (len < 4294967296) ⌝ }
-    ensures { λ r. ⌜ r ≡ record { key = key; kind = kind; first = first; len = len } ⌝ }
+// A row from its five numbers.
+fn row_of(key: usize, kind: u32, first: usize, len: usize, entry: usize) -> Row
+    requires { ⌜ (key < 65536) × (first < 4294967296) × (len < 4294967296) × (entry < 4294967296) ⌝ }
+    ensures { λ r. ⌜ r ≡ record { key = key; kind = kind; first = first; len = len; entry = entry } ⌝ }
 {
     Row {
         key: key as u32,
         kind,
         first: first as u32,
         len: len as u32,
+        entry: entry as u32,
     }
 }
 
-// The row of key entry i, counted from 0. At location 0 the value is the entry's fourth SHORT.
+// The row of key entry i, counted from 0, which stands behind the header of 8 bytes and i entries of 8. At location 0 the value is the entry's fourth SHORT.
 pub fn row(
     keys: &[u16; 45],
     kinds: &[u8; 45],
@@ -591,19 +592,32 @@ pub fn row(
     starts: Starts,
     i: usize,
 ) -> Row
-    requires { ⌜ (now keys ≡ keyNumbers) × (now kinds ≡ keyKinds) × (i < 256) × (8 * i + 16 ≤ length (now directory)) × (rowOf (startsIn starts) i (keyAt (runs big (now directory) [] []) i) .first < 4294967296) ⌝ }
+    requires { ⌜ (now keys ≡ keyNumbers) × (now kinds ≡ keyKinds) × (i < 256) × (8 * i + 16 ≤ length (now directory)) × (entryPlace (startsIn starts) i + 6 < 4294967296) × (rowOf (startsIn starts) i (keyAt (runs big (now directory) [] []) i) .first < 4294967296) ⌝ }
     ensures { λ r. ⌜ r ≡ rowOf (startsIn starts) i (keyAt (runs big (now (directory .entry)) [] []) i) ⌝ }
 {
     let e = entry_at(directory, big, i);
     let kind = kind_in(keys, kinds, e.key);
+    let entry = starts.directory + (8 + 8 * i);
     if e.location == 0 {
-        return row_of(e.key, kind, starts.directory + (8 * i + 14), 2);
+        return row_of(e.key, kind, entry + 6, 2, entry);
     }
     if e.location == DIRECTORY {
-        return row_of(e.key, kind, starts.directory + 2 * e.index, 2 * e.count);
+        return row_of(
+            e.key,
+            kind,
+            starts.directory + 2 * e.index,
+            2 * e.count,
+            entry,
+        );
     }
     if e.location == DOUBLES {
-        return row_of(e.key, kind, starts.doubles + 8 * e.index, 8 * e.count);
+        return row_of(
+            e.key,
+            kind,
+            starts.doubles + 8 * e.index,
+            8 * e.count,
+            entry,
+        );
     }
-    row_of(e.key, kind, starts.characters + e.index, e.count)
+    row_of(e.key, kind, starts.characters + e.index, e.count, entry)
 }

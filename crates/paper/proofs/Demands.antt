@@ -13,7 +13,7 @@ use Rattle.paper.specs.Tags.{table, maskTable, stripTags, tileTags}
 use Rattle.paper.specs.Pieces.{part}
 use Rattle.paper.specs.Keys.{Runs, minorRevision, keyCount, keys, keyRules}
 use Rattle.paper.specs.Judge.{headIn, entriesIn, nextIn, view, runsOf, fullOf, bothParts, allPieces, hasMask, maskRules, fileStage, verdictOf, rules, readingList}
-use Rattle.paper.specs.Calls.{answer, judgedOf, textOf, readRuns}
+use Rattle.paper.specs.Calls.{answer, judgedOf, rowsLeft, textOf, readRuns}
 use Rattle.paper.specs.Block.{blockOf, blockLeft}
 use Rattle.paper.specs.Asked.{AllKept, FirstBroken, Agree, onList, SameAnswers, noPiece, Within, InPiece, Repainted, Bytes, SameKeys, lentRuns}
 use Rattle.paper.specs.Listed.{directoryBy, listBy}
@@ -38,8 +38,10 @@ use Rattle.paper.proofs.Kept.{carries, tableBefore, tags-before, needed
 use Rattle.paper.proofs.Once.{repeats, verdictOnce, verdict-once, verdict-else, no-second, textBefore, text-once}
 use Rattle.paper.proofs.Minor.{keyRulesZero, verdictZero, verdict-zero, verdict-fifteen, read-zero, Twins, count-same, keys-same, rules-same}
 use Rattle.paper.proofs.Alone.{verdictAlone, verdict-alone, verdict-eight}
+use Rattle.paper.proofs.Four.{four, foursLeft, rows-four}
 use Rattle.paper.proofs.Trip.{read-accepted, read-same}
 use Rattle.paper.specs.declared.Block.{Block}
+use Rattle.paper.specs.declared.Row.{Row}
 
 -- DEMAND 1. Every call takes any bytes, whatever is lent or asked: the definitions are total, and no contract of a public call asks anything. A call on
 -- a file gives the number and the place of the file's first broken rule, one of 1 to 7, 9 to 22, 27 and 28; where none is broken, 0 with place 0 or a number
@@ -97,7 +99,8 @@ module _ (f : List ℕ) where
   judged = judged-verdict f
 
 -- What an accepted file shows is what the document defines, over the bytes as they stand in the file. `keys`: the minor revision, 0 or 1, as the key
--- header has it, K and the entries. `rows`: key, kind, and the part of the file that holds the key's value; later rows keep their content. `ground`: the
+-- header has it, K and the entries. `rows`: key, kind, the part of the file that holds the key's value, and the place of the key's entry, whose eight bytes
+-- lie in the file there and whose first number is the row's key; later rows keep their content. `ground`: the
 -- georeference from tiepoint and scale or from the matrix, the two corners written out, all finite. `pieces`: as many as the size asks for, one or more,
 -- and where each lies. `texts`: number k, counted from 0, is the value of entry k of tag 50909; with no such tag number 0 is the outside text; any other
 -- number is refused by 29.
@@ -246,6 +249,11 @@ pub mask-tags : (w l : ℕ) → map (λ l. l .tag) (maskTable w l)
     ≡ 256 ∷ 257 ∷ 258 ∷ 259 ∷ 262 ∷ 273 ∷ 277 ∷ 278 ∷ 279 ∷ 284 ∷ 322 ∷ 323 ∷ 324 ∷ 325 ∷ 254 ∷ []
 unfolding maskTable
 mask-tags w l = refl
+
+-- FOUR NUMBERS STAY. C-15 gave each key row a fifth number and changed no other: with the places of the entries taken off, the lent rows of every file
+-- hold what `foursLeft` says, the rows without C-15, which are written out in `Four`.
+pub four-kept : (f : List ℕ) (lent : List Row) → map four (rowsLeft f lent) ≡ foursLeft f (map four lent)
+four-kept = rows-four
 
 -- The marked examples are in `Marked` (`marked`, one table), with the whole reading list of a file of each stage (`allowed`); those of tiles are in
 -- `Tiled`, those with tag 50909 more than once in `Repeated`, those of minor revision 1 in `Revised`, those with a mask in `Masked`; accepted files of either byte order with their place on

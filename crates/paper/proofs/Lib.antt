@@ -22,6 +22,7 @@ pub mod Several
 pub mod Once
 pub mod Minor
 pub mod Alone
+pub mod Four
 pub mod Citation
 pub mod Metadata
 pub mod Texts

@@ -195,12 +195,12 @@ unfolding examples answered spelled computed
 marked = table-spelled (λ x. x .file) (λ x. answered (x .lent)) (λ x. x .gives) examples refl
 
 -- the rows of A, with four lent: the last keeps its content
-unfoldable pub row : ℕ → ℕ → ℕ → ℕ → Row
-row k n f l = record { key = k; kind = n; first = f; len = l }
+unfoldable pub row : ℕ → ℕ → ℕ → ℕ → ℕ → Row
+row k n f l e = record { key = k; kind = n; first = f; len = l; entry = e }
 
-pub rows-A : rowsLeft fileA (replicate 4 (row 7 7 7 7)) ≡ row 1024 0 244 2 ∷ row 1025 0 252 2 ∷ row 3072 0 260 2 ∷ row 7 7 7 7 ∷ []
+pub rows-A : rowsLeft fileA (replicate 4 (row 7 7 7 7 7)) ≡ row 1024 0 244 2 238 ∷ row 1025 0 252 2 246 ∷ row 3072 0 260 2 254 ∷ row 7 7 7 7 7 ∷ []
 unfolding fileA spelled computed row
-rows-A = spelled-same fileA (λ f. rowsLeft f (replicate 4 (row 7 7 7 7)))
+rows-A = spelled-same fileA (λ f. rowsLeft f (replicate 4 (row 7 7 7 7 7)))
 
 -- ---- the reading list
 
@@ -323,9 +323,10 @@ fileB =
     ++ doubles (0x41583FC410000000 ∷ 0x415854A640000000 ∷ [])
     ++ replicate 8 0
 
-pub rows-B : rowsLeft fileB (replicate 5 (row 0 0 0 0)) ≡ row 1024 0 268 2 ∷ row 1025 0 276 2 ∷ row 1026 2 174 3 ∷ row 2057 1 310 8 ∷ row 3072 0 300 2 ∷ []
+pub rows-B : rowsLeft fileB (replicate 5 (row 0 0 0 0 0))
+    ≡ row 1024 0 268 2 262 ∷ row 1025 0 276 2 270 ∷ row 1026 2 174 3 278 ∷ row 2057 1 310 8 286 ∷ row 3072 0 300 2 294 ∷ []
 unfolding fileB spelled computed row
-rows-B = spelled-same fileB (λ f. rowsLeft f (replicate 5 (row 0 0 0 0)))
+rows-B = spelled-same fileB (λ f. rowsLeft f (replicate 5 (row 0 0 0 0 0)))
 
 pub judged-B : judgedOf fileB .keys ≡ 5
 unfolding fileB spelled computed

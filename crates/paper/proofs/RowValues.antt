@@ -1,5 +1,5 @@
--- The keys and rows of an accepted file: each row names the part of the file that holds its key's value, and the rows after the first K keep their
--- content. Assumes nothing.
+-- The keys and rows of an accepted file: each row names the part of the file that holds its key's value and the place of its key's entry, and the rows
+-- after the first K keep their content. Assumes nothing.
 use Prim.Native.Nat.{ℕ, zero, suc, _+_, _-_, _*_, _/_, _≤_, _<_}
 use mathlib.Core.Path.{_≡_, refl, sym, ap, ap₂, _∙_, subst}
 use mathlib.Core.Bool.{Bool, true, false, _||_, _&&_}
@@ -17,10 +17,10 @@ use Rattle.paper.specs.Tag
 use Rattle.paper.specs.Tags.{bytesOf}
 use Rattle.paper.specs.Keys.{Runs, short, keys, keyAt, minorRevision, keyCount, noKey, rule15, rule17, misplaced, rightPlace, inEntry, within, room, kindOf}
 use Rattle.paper.specs.Judge.{view, verdictOf, runsOf, headIn, viewAt}
-use Rattle.paper.specs.Calls.{judgedOf, judgedIn, notJudged, Starts, startsOf, rowOf, rowAt, rowsIn, rowsOver, rowsLeft}
+use Rattle.paper.specs.Calls.{judgedOf, judgedIn, notJudged, Starts, startsOf, entryPlace, rowOf, rowAt, rowsIn, rowsOver, rowsLeft}
 use Rattle.paper.specs.Block.{elements}
 use Rattle.paper.specs.Asked.{elementsOf}
-use Rattle.paper.specs.Shown.{startIn, keysIn, keyIn, shortIn, KeysHold, widthAt, RowHolds, RowsHold}
+use Rattle.paper.specs.Shown.{startIn, keysIn, keyIn, shortIn, KeysHold, widthAt, EntryHolds, RowHolds, RowsHold}
 use Rattle.paper.proofs.Laws.{and-eq, kept-all, num-run, length-build, getD-build}
 use Rattle.paper.proofs.Codec.{num-drop, length-elems, getD-elems}
 use Rattle.paper.proofs.Keeps.{rule15-kept, rule17-kept}
@@ -87,16 +87,45 @@ own-elements r i at =
     (ap (λ (n : ℕ). n ∷ [])
     (index-at r i ∙ ap (num (r .big) 2 (r .directory)) (sym (add-zero (2 * (7 + 4 * i)))) ∙ sym (num-drop (r .big) 2 (2 * (7 + 4 * i)) (r .directory) 0)))
 
--- the row of a key entry, with where it says that the value stands
-abbrev made : KeyEntry → ℕ → ℕ → Row
-made e first len = record { key = e .key; kind = kindOf (e .key); first = first; len = len }
+-- the four SHORTs of entry i, which stand 8 bytes and i entries behind the start of the directory
+four-numbers : (r : Runs) (i : ℕ) → elems (r .big) 2 4 (drop (8 + 8 * i) (r .directory))
+    ≡ keyAt r i .key ∷ keyAt r i .location ∷ keyAt r i .count ∷ keyAt r i .index ∷ []
+unfolding elems build keyAt short
+four-numbers r i = λ d. at 0 4 (omega arith) d ∷ at 1 5 (omega arith) d ∷ at 2 6 (omega arith) d ∷ at 3 7 (omega arith) d ∷ []
+  where
+    at : (j k : ℕ) → 8 + 8 * i + 2 * j ≡ 2 * (k + 4 * i) → num (r .big) 2 (drop (8 + 8 * i) (r .directory)) (2 * j) ≡ num (r .big) 2 (r .directory) (2 * (k + 4 * i))
+    at j k e = num-drop (r .big) 2 (8 + 8 * i) (r .directory) (2 * j) ∙ ap (num (r .big) 2 (r .directory)) e
 
-module _ (f : List ℕ) (i : ℕ) where
+-- the row of a key entry, with where it says that the value and the entry stand
+abbrev made : KeyEntry → ℕ → ℕ → ℕ → Row
+made e first len place = record { key = e .key; kind = kindOf (e .key); first = first; len = len; entry = place }
+
+module _ (f : List ℕ) (i : ℕ) (h : i < keysIn f) (kept15 : rule15 (runsOf (view f)) ≡ kept) where
+  abbrev Place : ℕ
+  Place = startIn f Tag.keyDirectory + (8 + 8 * i)
+
+  whole : 8 + 8 * keysIn f ≤ length (bytesOf Tag.keyDirectory (view f .held))
+  unfolding runsOf view viewAt
+  whole = header-kept (runsOf (view f)) kept15 .whole
+
+  entry-holds : (first len : ℕ) → EntryHolds f i (made (keyIn f i) first len Place)
+  unfolding runsOf view viewAt
+  entry-holds first len =
+      let part = tag-part f Tag.keyDirectory (8 + 8 * i) 8 (omega (arith, whole)) (omega (arith, whole)) in
+      record {
+        place = refl;
+        inside = omega (arith, part .inside);
+        numbers =
+            ap (elems (headIn f .big) 2 4) (part .same)
+            ∙ elems-run (headIn f .big) 2 4 (bytesOf Tag.keyDirectory (view f .held)) (8 + 8 * i)
+            ∙ four-numbers (runsOf (view f)) i;
+      }
+
   -- in the value of a tag t, whose elements have w bytes
   tag-row : (t w : ℕ) → keyIn f i .location ≡ t → (t ≡ 0 → ⊥) → widthAt t ≡ w → 0 < w
       → elementsOf (runsOf (view f)) (keyIn f i) ≡ elements (headIn f .big) w (bytesOf t (view f .held)) (keyIn f i)
       → 1 ≤ keyIn f i .count → w * (keyIn f i .index + keyIn f i .count) ≤ length (bytesOf t (view f .held))
-      → RowHolds f i (made (keyIn f i) (startIn f t + w * keyIn f i .index) (w * keyIn f i .count))
+      → RowHolds f i (made (keyIn f i) (startIn f t + w * keyIn f i .index) (w * keyIn f i .count) Place)
   unfolding elements
   tag-row t w at n wide pos is some room =
       let l : w * keyIn f i .index + w * keyIn f i .count ≤ length (bytesOf t (view f .held)) =
@@ -115,17 +144,16 @@ module _ (f : List ℕ) (i : ℕ) where
             ∙ sym is;
         own = λ z. absurd (n (sym at ∙ z));
         named = λ z. ap₂ (λ (l x : ℕ). startIn f l + x * keyIn f i .index) (sym at) (sym width);
+        entry = entry-holds _ _;
       }
 
   -- in the entry itself
-  own-row : i < keysIn f → rule15 (runsOf (view f)) ≡ kept → keyIn f i .location ≡ 0 → keyIn f i .count ≡ 1
-      → RowHolds f i (made (keyIn f i) (startIn f Tag.keyDirectory + (8 * i + 14)) 2)
+  own-row : keyIn f i .location ≡ 0 → keyIn f i .count ≡ 1 → RowHolds f i (made (keyIn f i) (Place + 6) 2 Place)
   unfolding widthAt runsOf view viewAt
-  own-row h kept15 at one =
-      let long : 8 + 8 * keysIn f ≤ length (bytesOf Tag.keyDirectory (view f .held)) = header-kept (runsOf (view f)) kept15 .whole in
-      let part = tag-part f Tag.keyDirectory (2 * (7 + 4 * i)) 2 (omega arith) (omega arith) in
+  own-row at one =
+      let part = tag-part f Tag.keyDirectory (2 * (7 + 4 * i)) 2 (omega (arith, whole)) (omega (arith, whole)) in
       let width : widthAt (keyIn f i .location) ≡ 2 = ap widthAt at in
-      let first : startIn f Tag.keyDirectory + (8 * i + 14) ≡ startIn f Tag.keyDirectory + 2 * (7 + 4 * i) = omega arith in
+      let first : Place + 6 ≡ startIn f Tag.keyDirectory + 2 * (7 + 4 * i) = omega arith in
       record {
         key = refl;
         kind = refl;
@@ -138,23 +166,24 @@ module _ (f : List ℕ) (i : ℕ) where
             ∙ sym (own-elements (runsOf (view f)) i at);
         own = λ z. first;
         named = λ z. absurd (z at);
+        entry = entry-holds _ _;
       }
 
 -- as the definition makes it, at each location
 module _ (s : Starts) (i : ℕ) (e : KeyEntry) where
-  made-own : e .location ≡ 0 → rowOf s i e ≡ made e (s .directory + (8 * i + 14)) 2
+  made-own : e .location ≡ 0 → rowOf s i e ≡ made e (entryPlace s i + 6) 2 (entryPlace s i)
   unfolding rowOf
   made-own p = rw p
 
-  made-short : e .location ≡ Tag.keyDirectory → rowOf s i e ≡ made e (s .directory + 2 * e .index) (2 * e .count)
+  made-short : e .location ≡ Tag.keyDirectory → rowOf s i e ≡ made e (s .directory + 2 * e .index) (2 * e .count) (entryPlace s i)
   unfolding rowOf
   made-short p = rw p
 
-  made-double : e .location ≡ Tag.doubles → rowOf s i e ≡ made e (s .doubles + 8 * e .index) (8 * e .count)
+  made-double : e .location ≡ Tag.doubles → rowOf s i e ≡ made e (s .doubles + 8 * e .index) (8 * e .count) (entryPlace s i)
   unfolding rowOf
   made-double p = rw p
 
-  made-character : e .location ≡ Tag.characters → rowOf s i e ≡ made e (s .characters + e .index) (e .count)
+  made-character : e .location ≡ Tag.characters → rowOf s i e ≡ made e (s .characters + e .index) (e .count) (entryPlace s i)
   unfolding rowOf
   made-character p = rw p
 
@@ -236,24 +265,24 @@ module _ (f : List ℕ) (z : verdictOf f .number ≡ 0) where
       row-short at =
           let l : E .index + E .count ≤ length (bytesOf Tag.keyDirectory (view f .held)) / 2 = leb-true _ _ (rw at at fits) in
           subst (RowHolds f i) (sym (made-short (startsOf (view f)) i E at))
-          (tag-row f i Tag.keyDirectory 2 at (λ p. omega arith) refl (lit< tt) (rw at) some (omega arith))
+          (tag-row f i h (rule15-kept f z) Tag.keyDirectory 2 at (λ p. omega arith) refl (lit< tt) (rw at) some (omega arith))
 
       row-double : E .location ≡ Tag.doubles → RowHolds f i (rowAt (view f) i)
       unfolding rowAt startsOf room runsOf view viewAt widthAt elementsOf
       row-double at =
           let l : E .index + E .count ≤ length (bytesOf Tag.doubles (view f .held)) / 8 = leb-true _ _ (rw at at fits) in
           subst (RowHolds f i) (sym (made-double (startsOf (view f)) i E at))
-          (tag-row f i Tag.doubles 8 at (λ p. omega arith) refl (lit< tt) (rw at) some (omega arith))
+          (tag-row f i h (rule15-kept f z) Tag.doubles 8 at (λ p. omega arith) refl (lit< tt) (rw at) some (omega arith))
 
       row-character : E .location ≡ Tag.characters → RowHolds f i (rowAt (view f) i)
       unfolding rowAt startsOf room runsOf view viewAt widthAt elementsOf
       row-character at =
           let l : E .index + E .count ≤ length (bytesOf Tag.characters (view f .held)) = leb-true _ _ (rw at at fits) in
           let one : (n : ℕ) → n ≡ 1 * n = λ n. omega arith in
-          let is : rowAt (view f) i ≡ made E (startIn f Tag.characters + 1 * E .index) (1 * E .count) =
-          made-character (startsOf (view f)) i E at ∙ ap₂ (λ (a b : ℕ). made E (startIn f Tag.characters + a) b) (one (E .index)) (one (E .count)) in
+          let is : rowAt (view f) i ≡ made E (startIn f Tag.characters + 1 * E .index) (1 * E .count) (startIn f Tag.keyDirectory + (8 + 8 * i)) =
+          made-character (startsOf (view f)) i E at ∙ ap₂ (λ (a b : ℕ). made E (startIn f Tag.characters + a) b (startIn f Tag.keyDirectory + (8 + 8 * i))) (one (E .index)) (one (E .count)) in
           subst (RowHolds f i) (sym is)
-          (tag-row f i Tag.characters 1 at (λ p. omega arith) refl (lit< tt) (rw at) some (omega arith))
+          (tag-row f i h (rule15-kept f z) Tag.characters 1 at (λ p. omega arith) refl (lit< tt) (rw at) some (omega arith))
 
       row-named : RowHolds f i (rowAt (view f) i)
       unfolding room

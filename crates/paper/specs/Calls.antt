@@ -72,12 +72,15 @@ startsOf v =
       characters = find Tag.characters (v .held) .entry .start;
     }
 
--- The row of key entry i: where its value stands. At location 0 that is the entry's fourth SHORT, 8 bytes of header, i entries of 8 bytes and
--- 6 bytes behind the start of the key directory.
+-- where key entry i stands in the file: 8 bytes of header and i entries of 8 bytes behind the start of the key directory
+abbrev pub entryPlace : Starts → ℕ → ℕ
+entryPlace s i = s .directory + (8 + 8 * i)
+
+-- The row of key entry i: where its value stands, and where the entry does. At location 0 the value is the entry's fourth SHORT, the last 2 of its 8 bytes.
 unfoldable pub rowOf : Starts → ℕ → KeyEntry → Row
 rowOf s i e =
-    let row : ℕ → ℕ → Row = λ first len. record { key = e .key; kind = kindOf (e .key); first = first; len = len } in
-    cond (eqb (e .location) 0) (row (s .directory + (8 * i + 14)) 2)
+    let row : ℕ → ℕ → Row = λ first len. record { key = e .key; kind = kindOf (e .key); first = first; len = len; entry = entryPlace s i } in
+    cond (eqb (e .location) 0) (row (entryPlace s i + 6) 2)
     (cond (eqb (e .location) Tag.keyDirectory) (row (s .directory + 2 * e .index) (2 * e .count))
     (cond (eqb (e .location) Tag.doubles) (row (s .doubles + 8 * e .index) (8 * e .count))
     (row (s .characters + e .index) (e .count))))

@@ -3,7 +3,7 @@
 use Prim.Native.Nat.{ℕ, _+_, _-_, _*_, _≤_, _<_}
 use mathlib.Core.Path.{_≡_}
 use mathlib.Core.Bool.{Bool, true, false, cond}
-use mathlib.Core.List.{List}
+use mathlib.Core.List.{List, [], _∷_}
 use mathlib.Core.Logic.{_⊎_}
 use lib.Dec.{eqb}
 use lib.ListN.{length, getD}
@@ -74,7 +74,14 @@ pub record KeysHold (f : List ℕ) : Type 0 where
 unfoldable pub widthAt : ℕ → ℕ
 widthAt l = cond (eqb l Tag.doubles) 8 (cond (eqb l Tag.characters) 1 2)
 
--- the row of key entry i: its key, its kind, and the part of the file that holds its value and nothing else
+-- key entry i as its row shows it, whatever its location: behind the header and i other entries of the key directory stand 8 bytes of the file, four
+-- numbers, of which the first is the row's key
+pub record EntryHolds (f : List ℕ) (i : ℕ) (row : Row) : Type 0 where
+  pub place : row .entry ≡ startIn f Tag.keyDirectory + (8 + 8 * i)
+  pub inside : row .entry + 8 ≤ length f
+  pub numbers : elems (headIn f .big) 2 4 (run f (row .entry) 8) ≡ row .key ∷ keyIn f i .location ∷ keyIn f i .count ∷ keyIn f i .index ∷ []
+
+-- the row of key entry i: its key, its kind, the part of the file that holds its value and nothing else, and where the entry stands
 pub record RowHolds (f : List ℕ) (i : ℕ) (row : Row) : Type 0 where
   pub key : row .key ≡ keyIn f i .key
   pub kind : row .kind ≡ kindOf (keyIn f i .key)
@@ -87,6 +94,7 @@ pub record RowHolds (f : List ℕ) (i : ℕ) (row : Row) : Type 0 where
   -- else it stands in the value of the tag that the location names; the index counts elements
   pub named : (keyIn f i .location ≡ 0 → ⊥)
       → row .first ≡ startIn f (keyIn f i .location) + widthAt (keyIn f i .location) * keyIn f i .index
+  pub entry : EntryHolds f i row
 
 -- the rows that were lent hold this after the call: the first K are those of the keys, the others are as they were
 pub record RowsHold (f : List ℕ) (lent : List Row) : Type 0 where

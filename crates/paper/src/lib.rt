@@ -36,13 +36,15 @@ pub struct KeyEntry {
     pub index: usize,
 }
 
-// A key row: key, kind (0 SHORT, 1 DOUBLE, 2 ASCII, 3 other), first byte in the file, length in bytes. C lends rows of this layout.
+// A key row: key, kind (0 SHORT, 1 DOUBLE, 2 ASCII, 3 other), first byte in the file, length in bytes, and where the key's entry stands in the file. C lends rows
+// of this layout.
 #[repr(C)]
 pub struct Row {
     pub key: u32,
     pub kind: u32,
     pub first: u32,
     pub len: u32,
+    pub entry: u32,
 }
 
 // The georeference: scaled, from tiepoint and scale, or affine, with the matrix's elements counted from 1.

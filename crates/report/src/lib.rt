@@ -1,4 +1,4 @@
-// What the programs print about a file: its verdict and, if it is accepted, its key rows. Document 01's bench lines.
+// What the programs print about a file: its verdict and, if it is accepted, its key rows. Document 01's bench lines, with request C-15's fifth number.
 ghost use Prim.Native.Nat.{_≤_};
 use libc::STDOUT_FILENO;
 use paper::Row;
@@ -9,12 +9,13 @@ fn print_number(text: &[u8], number: u32) {
     io::print_decimal(STDOUT_FILENO, number as u64);
 }
 
-// A key line: key, kind, first byte, length.
+// A key line: key, kind, first byte, length, place of the entry.
 fn print_row(row: Row) {
     io::print_decimal(STDOUT_FILENO, row.key as u64);
     print_number(b" ", row.kind);
     print_number(b" ", row.first);
     print_number(b" ", row.len);
+    print_number(b" ", row.entry);
     io::write_all(STDOUT_FILENO, b"\n");
 }
 

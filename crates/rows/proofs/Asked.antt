@@ -10,7 +10,7 @@ use Rattle.paper.specs.Tag
 use Rattle.paper.specs.Tags.{table, find}
 use Rattle.paper.specs.Keys.{Runs, keys, keyCount, keyAt, rule15, rule17}
 use Rattle.paper.specs.Judge.{view, runsOf, verdictOf}
-use Rattle.paper.specs.Calls.{Starts, startsOf, rowOf, rowAt}
+use Rattle.paper.specs.Calls.{Starts, startsOf, entryPlace, rowOf, rowAt}
 use Rattle.paper.specs.declared.Outcome.the-variants.{Kept as kept}
 use Rattle.paper.specs.declared.Row.{Row}
 use Rattle.paper.proofs.Laws.{run-length-in}
@@ -40,6 +40,7 @@ pub record Asked (f : List ℕ) (p : Plan) (i : ℕ) : Type 0 where
   pub within : p .start + p .len ≤ length f
   pub few : i < 256
   pub here : 8 * i + 16 ≤ length (partOf f p)
+  pub entry : entryPlace (startsBy p) i + 6 < 4294967296
   pub low : rowOf (startsBy p) i (keyAt (runs (p .big) (partOf f p) [] []) i) .first < 4294967296
   pub row : rowOf (startsBy p) i (keyAt (runs (p .big) (partOf f p) [] []) i) ≡ rowAt (view f) i
 
@@ -83,7 +84,8 @@ module _ (f : List ℕ) (zero : verdictOf f .number ≡ 0) where
         within = directory .within;
         few = a .0;
         here = a .1;
-        low = a .2;
+        entry = a .2;
+        low = a .3;
         row = ap (rowOf (startsOf (view f)) i) (entry-any _ (Part Tag.keyDirectory) (Part Tag.doubles) (Part Tag.characters) i ∙ ap
             (λ (r : Runs). keyAt r i) runs-are);
       }

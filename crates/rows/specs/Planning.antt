@@ -44,7 +44,7 @@ pub record Fits (f : List ℕ) (p : Plan) (k : ℕ) : Type 0 where
 
 -- a row before anything is written, and 256 of them
 abbrev pub noRow : Row
-noRow = record { key = 0; kind = 0; first = 0; len = 0 }
+noRow = record { key = 0; kind = 0; first = 0; len = 0; entry = 0 }
 
 unfoldable pub blank : List Row
 blank = replicate 256 noRow

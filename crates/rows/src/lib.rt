@@ -126,6 +126,7 @@ pub fn lend(file: &[u8]) -> Lent
         kind: 0,
         first: 0,
         len: 0,
+        entry: 0,
     }; 256];
     let counted = key_rows(file, &mut rows);
     Lent { counted, rows }

@@ -313,11 +313,11 @@ fn lines(name: &str, file: &[u8]) -> String {
     let mut text =
         format!("{name} verdict {} place {}\n", judged.verdict.number, judged.verdict.place);
     if judged.verdict.number == 0 {
-        let mut rows = [Row { key: 0, kind: 0, first: 0, length: 0 }; 256];
+        let mut rows = [Row::default(); 256];
         let (_, keys) = key_rows(file, &mut rows);
         let _ = writeln!(text, "keys {keys}");
         for row in &rows[..keys as usize] {
-            let _ = writeln!(text, "{} {} {} {}", row.key, row.kind, row.first, row.length);
+            let _ = writeln!(text, "{row}");
         }
     }
     text

@@ -55,10 +55,10 @@ fn show(path: &str, file: &[u8]) {
 }
 
 fn rows(file: &[u8]) {
-    let mut lent = [Row { key: 0, kind: 0, first: 0, length: 0 }; 256];
+    let mut lent = [Row::default(); 256];
     let (_, keys) = key_rows(file, &mut lent);
     for row in &lent[..keys as usize] {
-        println!("{} {} {} {}", row.key, row.kind, row.first, row.length);
+        println!("{row}");
     }
 }
 

@@ -86,8 +86,8 @@ use Rattle.paper.specs.declared.Block.{Block}
 use Rattle.paper.specs.declared.Row.{Row}
 use Rattle.paper.specs.declared.Georeference.the-variants.{Scaled, Affine}
 
-row : ℕ → ℕ → ℕ → ℕ → Row
-row k n f l = record { key = k; kind = n; first = f; len = l }
+row : ℕ → ℕ → ℕ → ℕ → ℕ → Row
+row k n f l e = record { key = k; kind = n; first = f; len = l; entry = e }
 
 double : ℕ → Float
 unfolding Ieee.ofBits Ieee.ofFields Ieee.odd
@@ -165,16 +165,16 @@ impl Page {
     }
 
     fn rows_of(&mut self, file: &[u8], name: &str, lent: usize) {
-        let blank = Row { key: 9, kind: 9, first: 9, length: 9 };
+        let blank = Row::of([9; 5]);
         let mut rows = vec![blank; lent];
         let (verdict, keys) = key_rows(file, &mut rows);
         self.theorem(&format!("rowsOf {name} {lent}"), &counted(verdict, keys), "");
         let mut list = String::new();
         for row in &rows {
-            let _ = write!(list, "row {} {} {} {} ∷ ", row.key, row.kind, row.first, row.length);
+            let _ = write!(list, "row {row} ∷ ");
         }
         self.theorem(
-            &format!("rowsLeft {name} (replicate {lent} (row 9 9 9 9))"),
+            &format!("rowsLeft {name} (replicate {lent} (row {blank}))"),
             &(list + "[]"),
             "",
         );

@@ -1,6 +1,6 @@
 //! Questions to ask: every call on a file, around the sizes that it needs.
 
-use super::question::{Question, Symbol};
+use super::question::{Question, Symbol, ROW};
 use crate::generator::prng::Random;
 use crate::reader::{judge, key_block, texts};
 
@@ -18,7 +18,7 @@ fn memory(length: usize, random: &mut Random) -> Vec<u8> {
 
 /// The rows call with so many rows lent.
 pub fn rows<'a>(file: &'a [u8], lent: usize, random: &mut Random) -> Question<'a> {
-    let memory = memory(16 * lent + 2 * MARGIN, random);
+    let memory = memory(ROW * lent + 2 * MARGIN, random);
     Question::on(Symbol::Rows, file).lending(memory, MARGIN)
 }
 

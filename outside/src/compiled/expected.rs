@@ -1,7 +1,7 @@
 //! What the second reader says that the reply to a question must be.
 
 use super::expected;
-use super::question::{Numbers, Question, Reply, Symbol};
+use super::question::{Numbers, Question, Reply, Symbol, ROW};
 use crate::reader::{self, Row, Verdict};
 
 /// The reply by the second reader: the same numbers and the same bytes.
@@ -40,20 +40,20 @@ fn part(start: usize, length: usize, numbers: &mut Numbers) {
     numbers.wide[..2].copy_from_slice(&[start as u64, length as u64]);
 }
 
-/// The rows that stand in a run of bytes, four numbers each.
+/// The rows that stand in a run of bytes.
 fn rows_in(bytes: &[u8]) -> Vec<Row> {
     let row = |bytes: &[u8]| {
         let word = |at: usize| u32::from_le_bytes(bytes[at..at + 4].try_into().expect("four"));
-        Row { key: word(0), kind: word(4), first: word(8), length: word(12) }
+        Row::of([0, 4, 8, 12, 16].map(word))
     };
-    bytes.chunks_exact(16).map(row).collect()
+    bytes.chunks_exact(ROW).map(row).collect()
 }
 
 fn rows(file: &[u8], room: &mut [u8], numbers: &mut Numbers) -> Verdict {
     let mut rows = rows_in(room);
     let answer = reader::key_rows(file, &mut rows);
-    for (row, to) in rows.iter().zip(room.chunks_exact_mut(16)) {
-        let words = [row.key, row.kind, row.first, row.length].map(u32::to_le_bytes);
+    for (row, to) in rows.iter().zip(room.chunks_exact_mut(ROW)) {
+        let words = row.numbers().map(u32::to_le_bytes);
         to.copy_from_slice(&words.concat());
     }
     counted(answer, numbers)

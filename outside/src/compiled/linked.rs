@@ -1,7 +1,7 @@
 //! The static library, linked. The only unsafe code of this package.
 #![allow(unsafe_code)]
 
-use super::question::{Numbers, Question, Reply, Symbol, UNWRITTEN};
+use super::question::{Numbers, Question, Reply, Symbol, ROW, UNWRITTEN};
 
 extern "C" {
     fn petalbuzz_judge(file: *const u8, len: usize, verdict: *mut u32, place: *mut u32);
@@ -17,7 +17,7 @@ extern "C" {
     fn petalbuzz_rows(
         file: *const u8,
         len: usize,
-        rows: *mut [u32; 4],
+        rows: *mut [u32; 5],
         room: usize,
         verdict: *mut u32,
         place: *mut u32,
@@ -142,7 +142,7 @@ unsafe fn call(question: &Question, lent: *mut u8, numbers: &mut Numbers) {
     match question.symbol {
         Symbol::Judge => petalbuzz_judge(first, one, v, p),
         Symbol::Ground => petalbuzz_ground(first, one, v, p, t, wide.cast(), wide.add(6).cast()),
-        Symbol::Rows => petalbuzz_rows(first, one, out.cast(), room / 16, v, p, t),
+        Symbol::Rows => petalbuzz_rows(first, one, out.cast(), room / ROW, v, p, t),
         Symbol::Citation => petalbuzz_citation(first, one, asked, v, p, start, length),
         Symbol::Metadata => {
             petalbuzz_metadata(first, one, second, two, asked, v, p, t, start, length);

@@ -13,6 +13,9 @@ pub enum Symbol {
     ReadBlock,
 }
 
+/// The bytes of a key row in lent memory: five numbers of four.
+pub const ROW: usize = 20;
+
 /// What one call is asked, and everything that it is lent.
 #[derive(Clone, Debug)]
 pub struct Question<'a> {

@@ -7,6 +7,7 @@ use super::examine::{examine, Accepted};
 use super::ground::Georeference;
 use super::tables::*;
 use super::verdict::{refuse, Refusal, Verdict, ACCEPTED};
+use std::fmt;
 use std::ops::Range;
 
 /// The answer on a whole file.
@@ -58,13 +59,34 @@ pub fn judge_clause(file: &[u8]) -> (Verdict, &'static str) {
     named(examine(file, IN_FORCE))
 }
 
-/// One key row: kind 0 SHORT, 1 DOUBLE, 2 ASCII, 3 other.
-#[derive(Clone, Copy, Debug, PartialEq, Eq)]
+/// One key row: kind 0 SHORT, 1 DOUBLE, 2 ASCII, 3 other; the bytes of the
+/// value, and the byte place of the directory entry.
+#[derive(Clone, Copy, Debug, Default, PartialEq, Eq)]
 pub struct Row {
     pub key: u32,
     pub kind: u32,
     pub first: u32,
     pub length: u32,
+    pub entry: u32,
+}
+
+impl Row {
+    /// Its numbers in their order.
+    pub fn numbers(&self) -> [u32; 5] {
+        [self.key, self.kind, self.first, self.length, self.entry]
+    }
+
+    /// The row of these numbers.
+    pub const fn of([key, kind, first, length, entry]: [u32; 5]) -> Row {
+        Row { key, kind, first, length, entry }
+    }
+}
+
+/// A key line of the bench program.
+impl fmt::Display for Row {
+    fn fmt(&self, f: &mut fmt::Formatter) -> fmt::Result {
+        write!(f, "{}", self.numbers().map(|number| number.to_string()).join(" "))
+    }
 }
 
 impl Accepted<'_> {
@@ -74,12 +96,14 @@ impl Accepted<'_> {
         entry.value().expect("rule 10 is kept").start
     }
 
-    /// The row of the key at `position` in the key directory.
+    /// The row of the key at `position` in the key directory, whose header and
+    /// entries have 8 bytes each.
     fn row(&self, position: usize) -> Row {
         let entry = &self.keys[position];
+        let place = self.start(KEY_DIRECTORY) + 8 + 8 * position as u64;
         let (index, count) = (u64::from(entry.index), u64::from(entry.count));
         let (first, length) = match entry.location {
-            0 => (self.start(KEY_DIRECTORY) + 8 + 8 * position as u64 + 6, 2),
+            0 => (place + 6, 2),
             KEY_DIRECTORY => (self.start(KEY_DIRECTORY) + 2 * index, 2 * count),
             DOUBLES => (self.start(DOUBLES) + 8 * index, 8 * count),
             _ => (self.start(CHARACTERS) + index, count),
@@ -89,6 +113,7 @@ impl Accepted<'_> {
             kind: kind_of(entry.key) as u32,
             first: first as u32,
             length: length as u32,
+            entry: place as u32,
         }
     }
 

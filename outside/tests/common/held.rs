@@ -1,6 +1,8 @@
 //! The keys that a file or a key block holds, and the header before them, read
 //! apart from the reader.
 
+use std::ops::Range;
+
 /// A key with its location, count and elements, doubles by bits.
 pub type Held = (u64, u64, u64, Vec<u64>);
 
@@ -38,19 +40,25 @@ fn header(little: bool, directory: &[u8]) -> [u64; 4] {
     std::array::from_fn(|at| number(little, directory, 2 * at, 2))
 }
 
-/// The three runs of a file: the values of 34735, 34736 and 34737.
-fn runs(file: &[u8]) -> [&[u8]; 3] {
+/// Where the values of 34735, 34736 and 34737 stand in a file; an absent one
+/// is empty.
+pub fn places(file: &[u8]) -> [Range<usize>; 3] {
     let little = file[0] == b'I';
     let field = |at: u64, width: usize| number(little, file, at as usize, width);
     let directory = field(4, 4);
     let value = |tag: u64, size: u64| {
         let mut entries = (0..field(directory, 2)).map(|at| directory + 2 + 12 * at);
-        let Some(entry) = entries.find(|&entry| field(entry, 2) == tag) else { return &file[..0] };
+        let Some(entry) = entries.find(|&entry| field(entry, 2) == tag) else { return 0..0 };
         let bytes = field(entry + 4, 4) * size;
         let start = if bytes > 4 { field(entry + 8, 4) } else { entry + 8 };
-        &file[start as usize..(start + bytes) as usize]
+        start as usize..(start + bytes) as usize
     };
     [value(34735, 2), value(34736, 8), value(34737, 1)]
+}
+
+/// The three runs of a file.
+fn runs(file: &[u8]) -> [&[u8]; 3] {
+    places(file).map(|place| &file[place])
 }
 
 /// Holds the three runs of a block to the accepted file that it is of: the

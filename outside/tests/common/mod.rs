@@ -66,11 +66,7 @@ pub fn verdict(number: u32, place: u32) -> Verdict {
 }
 
 /// A row that no file gives, to see whether lent rows change.
-pub const UNTOUCHED: Row = Row { key: 7_777_777, kind: 88, first: 99, length: 66 };
-
-pub fn row(key: u32, kind: u32, first: u32, length: u32) -> Row {
-    Row { key, kind, first, length }
-}
+pub const UNTOUCHED: Row = Row::of([7_777_777, 88, 99, 66, 5]);
 
 /// The four corner doubles by their bits.
 pub fn bits(corners: [f64; 4]) -> [u64; 4] {

@@ -90,8 +90,12 @@ stayed = (
   ),
 )
 
+-- the bytes of a row: five numbers of four
+abbrev size : ℕ
+size = 20
+
 -- a row's first byte lies at a number that fits
-times-fits : (n l : ℕ) → n < l → l * 16 < 2 ^ 63 → n * 16 < 2 ^ 64
+times-fits : (n l : ℕ) → n < l → l * size < 2 ^ 63 → n * size < 2 ^ 64
 times-fits n l h g = omega arith
 
 -- the types of the locals
@@ -286,7 +290,7 @@ module _ {M : Type 1} (𝓤 : URA M) (H : Heap 𝓤) (A : Atoms 𝓤) (W : Given
         (init ! 13 refl (tt, record { fits = times less })) $
         assigns ! (bin ! (load ! (from ! (fld ! refl (stop !))) (look-in ! 31 (sub ! 0 refl (whole !)))) (load ! (from ! (stop !)) (look ! 13 refl)) tt)
         (from ! (stop !)) (init ! 11 refl (tt, tt)) $
-        rewrite ! 11 (λ (z : ℕ). ‵ (fat fullShare tyPtr l₉ 0 (vptr b z))) (sym (place-is 16 o (i .0))) refl $
+        rewrite ! 11 (λ (z : ℕ). ‵ (fat fullShare tyPtr l₉ 0 (vptr b z))) (sym (place-is size o (i .0))) refl $
         -- the element is taken out, stored to, and put back
         move ! (7 ∷ []) $ elem-out ! R (Is R) (shows 𝓤 H A R) (LL.vals T.the-type T′.the-laws) (LL.tells T.the-type T′.the-laws) fullShare (L (i .0))
         (i .0) r b o (in-L less) (λ _.
@@ -325,7 +329,7 @@ module _ {M : Type 1} (𝓤 : URA M) (H : Heap 𝓤) (A : Atoms 𝓤) (W : Given
         in-L : T (ltb (i .0) k) → i .0 < length (L (i .0))
         in-L less = subst (λ (n : ℕ). i .0 < n) (sym len-L) (in-ys less)
 
-        times : T (ltb (i .0) k) → i .0 * 16 < 2 ^ 64
+        times : T (ltb (i .0) k) → i .0 * size < 2 ^ 64
         times less = times-fits (i .0) (length ys) (in-ys less) (room .1)
 
     -- the loop, and the rest of the body. It stands by itself, so that the check of `walk` keeps within its limit of steps

@@ -85,7 +85,7 @@ abbrev no-val : Val
 no-val = T′.lowered noRow
 
 no-row : Is R noRow (no-val ∷ [])
-no-row = LL.owes T.the-type T′.the-laws noRow ((refl, lit< tt), ((refl, lit< tt), ((refl, lit< tt), ((refl, lit< tt), tt))))
+no-row = LL.owes T.the-type T′.the-laws noRow ((refl, lit< tt), ((refl, lit< tt), ((refl, lit< tt), ((refl, lit< tt), ((refl, lit< tt), tt)))))
 
 room : Room R 256
 room = (lit< tt, lit< tt)
@@ -180,7 +180,7 @@ module _ {M : Type 1} (𝓤 : URA M) (H : Heap 𝓤) (A : Atoms 𝓤) (W : Given
         alloc1 ! (λ l₀. alloc1 ! (λ l₁. alloc1 ! (λ l₂. alloc1 ! (λ l₃. alloc1 ! (λ l₄. alloc1 ! (λ l₅. alloc1 ! (λ l₆. alloc1 ! (λ l₇. alloc0 ! $ params1 ! $
         pass1 ! (init ! 12 refl (tt, (tt, (record { fits = sr-fits }, tt)))) $ pass0 ! $
         -- [the locals, last first; the token; what the file owns]
-        assigns ! (agg ! (and-then ! (lit ! tt) (and-then ! (lit ! tt) (and-then ! (lit ! tt) (and-then ! (lit ! tt) (no-more !)))))) (from ! (stop !))
+        assigns ! (agg ! (and-then ! (lit ! tt) (and-then ! (lit ! tt) (and-then ! (lit ! tt) (and-then ! (lit ! tt) (and-then ! (lit ! tt) (no-more !))))))) (from ! (stop !))
         (init ! 6 refl (LL.lawful T.the-type T′.the-laws 𝓤 H A W .typed noRow _ no-row .0)) $
         owned ! R (Is R) (LL.makes T.the-type T′.the-plain 𝓤 H A) noRow (no-val ∷ []) no-row $
         use1 W (‵ (Rs .own (replicate 256 noRow) (arrayVal (replicate 256 no-val) ∷ [])))
