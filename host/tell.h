@@ -80,7 +80,7 @@ static void add_keys(struct record *to, const struct found *f) {
         add(to, "entry at ");
         add_place(to, row->entry);
         add(to, ", value at ");
-        add_number(to, row->first);
+        add_place(to, row->first);
         add(to, ", ");
         add_number(to, row->length);
         add(to, " bytes: ");
