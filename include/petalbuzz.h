@@ -32,7 +32,9 @@
  * functions are the symbols of the library, with its own conditions on
  * pointers.
  *
- * Link with libpetalbuzz.a (x86-64); it needs no other library. */
+ * Link with libpetalbuzz.a (x86-64); it needs no other library. Take this header
+ * and the library from one commit, and compile the host anew with them: a later
+ * one may have longer structs. */
 #ifndef PETALBUZZ_H
 #define PETALBUZZ_H
 
@@ -95,13 +97,15 @@ enum petalbuzz_kind {
     PETALBUZZ_OTHER = 3, /* none of the 45 known keys */
 };
 
-/* One key of an accepted file, with the place of its value. */
+/* One key of an accepted file, with the places of its value and of its entry in the
+ * key directory, tag 34735. An entry is four numbers of 2 bytes in the file's byte
+ * order: key, location, count and value index. */
 typedef struct petalbuzz_row {
     uint32_t key;
     uint32_t kind;   /* as petalbuzz_kind has it */
     uint32_t first;  /* the value's first byte in the file */
     uint32_t length; /* in bytes */
-    uint32_t entry;  /* the first of the 8 bytes of the key's entry, wherever its value is */
+    uint32_t entry;  /* the entry's first byte in the file, wherever the value is */
 } petalbuzz_row;
 
 /* The symbols of the library. No pointer is null: an empty run has some
