@@ -17,7 +17,7 @@ pub use expected::reply as expected_reply;
 pub use question::{Numbers, Question, Reply, Symbol};
 pub use way::ask;
 #[cfg(direct)]
-pub use way::{ground_into, verdict_of, Raw};
+pub use way::{ground_into, rows_into, verdict_of, Raw};
 
 use crate::reader::{self, Georeference};
 

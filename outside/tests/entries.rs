@@ -4,18 +4,10 @@
 mod common;
 
 use common::kept::files;
-use common::{field, held, keys, plan_like_a, tiled, verdict, UNTOUCHED};
+use common::{field, held, keys, plan_like_a, rows, tiled, verdict, UNTOUCHED};
 use outside::generator::keyplan::Held;
-use outside::reader::{key_rows, Order, Row};
+use outside::reader::{key_rows, Order};
 use std::collections::BTreeMap;
-
-/// The rows of a file; none of a refused one.
-fn rows(file: &[u8]) -> Vec<Row> {
-    let mut rows = vec![UNTOUCHED; 256];
-    let (_, keys) = key_rows(file, &mut rows);
-    rows.truncate(keys as usize);
-    rows
-}
 
 /// Holds each row of an accepted file to the bytes of its entry. The locations
 /// of the keys.

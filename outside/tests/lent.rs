@@ -62,13 +62,10 @@ fn a_refused_key_block_gives_zeros() {
 
 /// The rows of an accepted file and its key block, each with room to spare.
 fn whole(file: &[u8]) -> (Vec<Row>, Vec<u8>) {
-    let mut rows = vec![UNTOUCHED; 256];
-    let (_, keys) = key_rows(file, &mut rows);
-    rows.truncate(keys as usize);
     let mut out = vec![0; 1 << 16];
     let lengths = key_block(file, &mut out).lengths;
     out.truncate(lengths.iter().sum());
-    (rows, out)
+    (rows(file), out)
 }
 
 #[test]

@@ -12,7 +12,7 @@ use outside::reader::tables::{Rules, C_12, C_13};
 use outside::reader::{
     citation, judge, judge_by, judgements, judgements_by, key_block, key_block_by, key_rows,
     leads_on, metadata, read_block, read_block_by, reading_list, reading_list_by, Block, Cited,
-    Georeference, Judged, Order, ReadBack, Row, Text,
+    Georeference, Judged, Order, ReadBack, Text,
 };
 use std::collections::BTreeSet;
 
@@ -61,15 +61,6 @@ fn revised(file: &[u8], minor: u8) -> Vec<u8> {
     let at = minor_at(&file).expect("a key directory");
     file[at..at + 2].copy_from_slice(&number);
     file
-}
-
-/// The rows of an accepted file.
-fn rows(file: &[u8]) -> Vec<Row> {
-    let mut rows = vec![UNTOUCHED; 256];
-    let (got, keys) = key_rows(file, &mut rows);
-    assert_eq!(got, verdict(0, 0));
-    rows.truncate(keys as usize);
-    rows
 }
 
 /// How many values of keys have the one byte of the file that differs.

@@ -3,7 +3,7 @@
 use Prim.Native.Nat.{ℕ, _+_, _*_, _≤_, _<_}
 use mathlib.Core.Path.{_≡_, refl, ap}
 use mathlib.Core.Bool.{Bool, true, false, cond, _&&_, _||_}
-use mathlib.Core.List.{List, []}
+use mathlib.Core.List.{List}
 use native.Mathlib.Omega.{arith}
 use native.Mathlib.Nat.{zero-add}
 use lib.Dec.{eqb}
@@ -18,6 +18,7 @@ use Rattle.paper.specs.declared.Row.{Row}
 use Rattle.paper.specs.declared.Outcome.the-variants.{Kept as kept}
 use Rattle.paper.proofs.Laws.{and-eq, kept-all, length-build, getD-build}
 use Rattle.keys.specs.Pass.{runs}
+use Rattle.keys.specs.Rows.{RowAsked}
 use Rattle.keys.proofs.Head.{headed}
 use Rattle.keys.proofs.Placed.{within-gives}
 
@@ -126,7 +127,7 @@ module _ (r : Runs) (s : Starts) (i : ℕ) (d-low : s .directory + length (r .di
 pub row-asks : (big : Bool) (d x t : List ℕ) (s : Starts) (i : ℕ) → s .directory + length d < 4294967296 → s .doubles + length x < 4294967296
     → s .characters + length t < 4294967296 → rule15 (runs big d x t) ≡ kept → rule17 (runs big d x t) (keys (runs big d x t)) ≡ kept
     → i < keyCount (runs big d x t)
-    → (i < 256) × (8 * i + 16 ≤ length d) × (entryPlace s i + 6 < 4294967296) × (rowOf s i (keyAt (runs big d [] []) i) .first < 4294967296)
+    → RowAsked big d s i
 unfolding rule15 minorRevision keyCount short keyAt
 row-asks big d x t s i a b c p q l =
     let h = headed big d (rule15 (runs big d x t)) refl p in

@@ -12,8 +12,8 @@ ghost use lib.Dec.{leb};
 ghost use lib.ListN.{length};
 ghost use Rattle.paper.specs.Tests.{just};
 ghost use Rattle.paper.specs.Keys.{kindOf, keyAt, room, inEntry, rightPlace};
-ghost use Rattle.paper.specs.Calls.{entryPlace, rowOf};
-ghost use Rattle.keys.specs.Rows.{startsIn};
+ghost use Rattle.paper.specs.Calls.{rowOf};
+ghost use Rattle.keys.specs.Rows.{startsIn, RowAsked};
 ghost use Rattle.keys.specs.Table.{keyNumbers, keyKinds, slotOf};
 ghost use Rattle.keys.specs.Pass.{runs, headerOf, judged, keysJudged, entriesJudged, finished, askedKeys};
 ghost use Rattle.paper.specs.Tests.{indexOf};
@@ -592,7 +592,7 @@ pub fn row(
     starts: Starts,
     i: usize,
 ) -> Row
-    requires { ⌜ (now keys ≡ keyNumbers) × (now kinds ≡ keyKinds) × (i < 256) × (8 * i + 16 ≤ length (now directory)) × (entryPlace (startsIn starts) i + 6 < 4294967296) × (rowOf (startsIn starts) i (keyAt (runs big (now directory) [] []) i) .first < 4294967296) ⌝ }
+    requires { ⌜ (now keys ≡ keyNumbers) × (now kinds ≡ keyKinds) × RowAsked big (now directory) (startsIn starts) i ⌝ }
     ensures { λ r. ⌜ r ≡ rowOf (startsIn starts) i (keyAt (runs big (now (directory .entry)) [] []) i) ⌝ }
 {
     let e = entry_at(directory, big, i);

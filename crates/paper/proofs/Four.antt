@@ -3,7 +3,7 @@
 use Prim.Native.Nat.{ℕ, zero, suc, _+_, _*_}
 use mathlib.Core.Path.{_≡_, refl, ap, ap₂, _∙_}
 use mathlib.Core.Bool.{Bool, true, false, cond}
-use mathlib.Core.List.{List, [], _∷_, _++_, map}
+use mathlib.Core.List.{List, [], _∷_, _++_, map, map-append}
 use native.Mathlib.Omega.{arith}
 use lib.Dec.{eqb, ltb}
 use lib.ListN.{length, drop, length-map}
@@ -55,10 +55,6 @@ unfolding build
 map-build g h h′ same i zero = refl
 map-build g h h′ same i (suc k) = ap₂ (λ x xs. x ∷ xs) (same i) (map-build g h h′ same (suc i) k)
 
-map-join : {A B : Type 0} (g : A → B) (xs ys : List A) → map g (xs ++ ys) ≡ map g xs ++ map g ys
-map-join g [] ys = refl
-map-join g (x ∷ xs) ys = ap (λ zs. g x ∷ zs) (map-join g xs ys)
-
 map-drop : {A B : Type 0} (g : A → B) (k : ℕ) (xs : List A) → map g (drop k xs) ≡ drop k (map g xs)
 map-drop g zero xs = refl
 map-drop g (suc k) [] = refl
@@ -87,7 +83,7 @@ unfolding rowsOver foursOver
 four-over lent v =
     map-cond (map four) (ltb (length lent) (keyCount (runsOf v))) lent (rowsIn v ++ drop (keyCount (runsOf v)) lent)
     ∙ rw
-    (length-map lent four, map-join four (rowsIn v) (drop (keyCount (runsOf v)) lent), four-rows v, map-drop four (keyCount (runsOf v)) lent)
+    (length-map lent four, map-append four (rowsIn v) (drop (keyCount (runsOf v)) lent), four-rows v, map-drop four (keyCount (runsOf v)) lent)
 
 pub rows-four : (f : List ℕ) (lent : List Row) → map four (rowsLeft f lent) ≡ foursLeft f (map four lent)
 unfolding rowsLeft foursLeft answer

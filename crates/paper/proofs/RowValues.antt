@@ -100,16 +100,17 @@ four-numbers r i = λ d. at 0 4 (omega arith) d ∷ at 1 5 (omega arith) d ∷ a
 abbrev made : KeyEntry → ℕ → ℕ → ℕ → Row
 made e first len place = record { key = e .key; kind = kindOf (e .key); first = first; len = len; entry = place }
 
-module _ (f : List ℕ) (i : ℕ) (h : i < keysIn f) (kept15 : rule15 (runsOf (view f)) ≡ kept) where
-  abbrev Place : ℕ
-  Place = startIn f Tag.keyDirectory + (8 + 8 * i)
+-- where key entry i of a file stands
+abbrev placeIn : List ℕ → ℕ → ℕ
+placeIn f i = entryPlace (startsOf (view f)) i
 
+module _ (f : List ℕ) (i : ℕ) (h : i < keysIn f) (kept15 : rule15 (runsOf (view f)) ≡ kept) where
   whole : 8 + 8 * keysIn f ≤ length (bytesOf Tag.keyDirectory (view f .held))
   unfolding runsOf view viewAt
   whole = header-kept (runsOf (view f)) kept15 .whole
 
-  entry-holds : (first len : ℕ) → EntryHolds f i (made (keyIn f i) first len Place)
-  unfolding runsOf view viewAt
+  entry-holds : (first len : ℕ) → EntryHolds f i (made (keyIn f i) first len (placeIn f i))
+  unfolding startsOf runsOf view viewAt
   entry-holds first len =
       let part = tag-part f Tag.keyDirectory (8 + 8 * i) 8 (omega (arith, whole)) (omega (arith, whole)) in
       record {
@@ -125,7 +126,7 @@ module _ (f : List ℕ) (i : ℕ) (h : i < keysIn f) (kept15 : rule15 (runsOf (v
   tag-row : (t w : ℕ) → keyIn f i .location ≡ t → (t ≡ 0 → ⊥) → widthAt t ≡ w → 0 < w
       → elementsOf (runsOf (view f)) (keyIn f i) ≡ elements (headIn f .big) w (bytesOf t (view f .held)) (keyIn f i)
       → 1 ≤ keyIn f i .count → w * (keyIn f i .index + keyIn f i .count) ≤ length (bytesOf t (view f .held))
-      → RowHolds f i (made (keyIn f i) (startIn f t + w * keyIn f i .index) (w * keyIn f i .count) Place)
+      → RowHolds f i (made (keyIn f i) (startIn f t + w * keyIn f i .index) (w * keyIn f i .count) (placeIn f i))
   unfolding elements
   tag-row t w at n wide pos is some room =
       let l : w * keyIn f i .index + w * keyIn f i .count ≤ length (bytesOf t (view f .held)) =
@@ -148,12 +149,12 @@ module _ (f : List ℕ) (i : ℕ) (h : i < keysIn f) (kept15 : rule15 (runsOf (v
       }
 
   -- in the entry itself
-  own-row : keyIn f i .location ≡ 0 → keyIn f i .count ≡ 1 → RowHolds f i (made (keyIn f i) (Place + 6) 2 Place)
-  unfolding widthAt runsOf view viewAt
+  own-row : keyIn f i .location ≡ 0 → keyIn f i .count ≡ 1 → RowHolds f i (made (keyIn f i) (placeIn f i + 6) 2 (placeIn f i))
+  unfolding widthAt startsOf runsOf view viewAt
   own-row at one =
       let part = tag-part f Tag.keyDirectory (2 * (7 + 4 * i)) 2 (omega (arith, whole)) (omega (arith, whole)) in
       let width : widthAt (keyIn f i .location) ≡ 2 = ap widthAt at in
-      let first : Place + 6 ≡ startIn f Tag.keyDirectory + 2 * (7 + 4 * i) = omega arith in
+      let first : placeIn f i + 6 ≡ startIn f Tag.keyDirectory + 2 * (7 + 4 * i) = omega arith in
       record {
         key = refl;
         kind = refl;
@@ -279,8 +280,8 @@ module _ (f : List ℕ) (z : verdictOf f .number ≡ 0) where
       row-character at =
           let l : E .index + E .count ≤ length (bytesOf Tag.characters (view f .held)) = leb-true _ _ (rw at at fits) in
           let one : (n : ℕ) → n ≡ 1 * n = λ n. omega arith in
-          let is : rowAt (view f) i ≡ made E (startIn f Tag.characters + 1 * E .index) (1 * E .count) (startIn f Tag.keyDirectory + (8 + 8 * i)) =
-          made-character (startsOf (view f)) i E at ∙ ap₂ (λ (a b : ℕ). made E (startIn f Tag.characters + a) b (startIn f Tag.keyDirectory + (8 + 8 * i))) (one (E .index)) (one (E .count)) in
+          let is : rowAt (view f) i ≡ made E (startIn f Tag.characters + 1 * E .index) (1 * E .count) (placeIn f i) =
+          made-character (startsOf (view f)) i E at ∙ ap₂ (λ (a b : ℕ). made E (startIn f Tag.characters + a) b (placeIn f i)) (one (E .index)) (one (E .count)) in
           subst (RowHolds f i) (sym is)
           (tag-row f i h (rule15-kept f z) Tag.characters 1 at (λ p. omega arith) refl (lit< tt) (rw at) some (omega arith))
 

@@ -1,11 +1,14 @@
 -- Rules over whole tables, each by one test that is computed over the table: the kinds of the 45 keys are document 01's three lists, for every
--- key there is, and each table stands in ascending order, so that the first at fault is the lowest. Assumes nothing.
+-- key there is, and each table stands in ascending order, so that the first at fault is the lowest. And how a key row lies in memory, for C. Assumes nothing.
 use Prim.Native.Nat.{ℕ, _+_}
 use mathlib.Core.Path.{_≡_, refl, sym, ap, _∙_}
 use mathlib.Core.Bool.{Bool, true, false, cond, false≢true}
 use mathlib.Core.List.{List, [], _∷_, _++_, map}
 use lib.Dec.{eqb}
 use lib.ListN.{length}
+use mir.Syntax.{w32}
+use mir.Val.{Vals, vstruct, vnil, vcons, vint}
+use prog.Memory.{size}
 use borrow.Author.Tests.{eqb-true}
 use Rattle.paper.specs.Bytes.{build}
 use Rattle.paper.specs.Outcome.{kept, ascending}
@@ -14,6 +17,8 @@ use Rattle.paper.specs.Tags.{table}
 use Rattle.paper.specs.Keys.{Known, knownKeys, kindIn, kindOf, fixedKeys, shortKind, doubleKind, asciiKind, otherKind}
 use Rattle.paper.proofs.Laws.{and-eq}
 use Rattle.paper.proofs.Computed.{computed}
+use Rattle.paper.proofs.Row.Laws as InMemory
+use Rattle.paper.specs.declared.Row.{Row}
 
 -- ---- document 01's lists
 
@@ -106,3 +111,16 @@ table-order = refl
 pub fixed-order : ascending (map (λ x. x .key) fixedKeys) ≡ kept
 unfolding computed
 fixed-order = refl
+
+-- ---- a key row in memory
+
+-- a number of 4 bytes, then others
+abbrev then : ℕ → Vals → Vals
+then n vs = vcons (vint w32 n) vs
+
+-- rows that C lends are five numbers of 4 bytes each in this order: key, kind, first byte, length, entry
+pub row-laid : (r : Row) → InMemory.lowered r ≡ vstruct (then (r .key) (then (r .kind) (then (r .first) (then (r .len) (then (r .entry) vnil)))))
+row-laid r = refl
+
+pub row-size : size InMemory.mir ≡ 20
+row-size = refl

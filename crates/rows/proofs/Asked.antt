@@ -1,5 +1,5 @@
 -- A row of an accepted file: all that is asked to make it, and that what is made is the paper's row. Assumes nothing.
-use Prim.Native.Nat.{ℕ, _+_, _*_, _≤_, _<_}
+use Prim.Native.Nat.{ℕ, _+_, _≤_, _<_}
 use mathlib.Core.Path.{_≡_, sym, ap, _∙_, subst}
 use mathlib.Core.List.{List, []}
 use native.Mathlib.Omega.{arith}
@@ -10,7 +10,7 @@ use Rattle.paper.specs.Tag
 use Rattle.paper.specs.Tags.{table, find}
 use Rattle.paper.specs.Keys.{Runs, keys, keyCount, keyAt, rule15, rule17}
 use Rattle.paper.specs.Judge.{view, runsOf, verdictOf}
-use Rattle.paper.specs.Calls.{Starts, startsOf, entryPlace, rowOf, rowAt}
+use Rattle.paper.specs.Calls.{Starts, startsOf, rowOf, rowAt}
 use Rattle.paper.specs.declared.Outcome.the-variants.{Kept as kept}
 use Rattle.paper.specs.declared.Row.{Row}
 use Rattle.paper.proofs.Laws.{run-length-in}
@@ -18,6 +18,7 @@ use Rattle.paper.proofs.Called.{answer-good}
 use Rattle.tags.specs.Index
 use Rattle.tags.specs.Slots.{tagAt, lineAt}
 use Rattle.keys.specs.Pass.{runs}
+use Rattle.keys.specs.Rows.{RowAsked}
 use Rattle.keys.proofs.Rows.{row-asks}
 use Rattle.keys.proofs.Turn.{entry-any}
 use Rattle.image.specs.Imaging.{tagPart}
@@ -38,10 +39,7 @@ startsBy p = record { directory = p .start; doubles = p .doubles; characters = p
 -- what is asked for row i, and what it is
 pub record Asked (f : List ℕ) (p : Plan) (i : ℕ) : Type 0 where
   pub within : p .start + p .len ≤ length f
-  pub few : i < 256
-  pub here : 8 * i + 16 ≤ length (partOf f p)
-  pub entry : entryPlace (startsBy p) i + 6 < 4294967296
-  pub low : rowOf (startsBy p) i (keyAt (runs (p .big) (partOf f p) [] []) i) .first < 4294967296
+  pub asks : RowAsked (p .big) (partOf f p) (startsBy p) i
   pub row : rowOf (startsBy p) i (keyAt (runs (p .big) (partOf f p) [] []) i) ≡ rowAt (view f) i
 
 module _ (f : List ℕ) (zero : verdictOf f .number ≡ 0) where
@@ -82,10 +80,7 @@ module _ (f : List ℕ) (zero : verdictOf f .number ≡ 0) where
       (subst (λ (r : Runs). i < keyCount r) (sym runs-are) h) in
       record {
         within = directory .within;
-        few = a .0;
-        here = a .1;
-        entry = a .2;
-        low = a .3;
+        asks = a;
         row = ap (rowOf (startsOf (view f)) i) (entry-any _ (Part Tag.keyDirectory) (Part Tag.doubles) (Part Tag.characters) i ∙ ap
             (λ (r : Runs). keyAt r i) runs-are);
       }

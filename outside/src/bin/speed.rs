@@ -151,7 +151,7 @@ mod measure {
 
 #[cfg(direct)]
 mod measure {
-    use outside::compiled::{ground_into, verdict_of, Raw};
+    use outside::compiled::{ground_into, rows_into, verdict_of, Raw};
     use outside::fast;
     use outside::generator::large::many_pieces;
     use outside::reader::tables::Family;
@@ -166,6 +166,15 @@ mod measure {
         ("compiled-judge", |files| pass(files, |file| sum(verdict_of(file)))),
         ("fast-judge", |files| pass(files, |file| sum(fast::verdict(file)))),
     ];
+
+    /// The rows call, which the fast judge has not.
+    const ROWS: (&str, fn(&[Vec<u8>]) -> u64) = ("compiled-rows", |files| {
+        let mut rows = [[0; 5]; 256];
+        files.iter().fold(0, |all, file| {
+            let (verdict, place, keys) = rows_into(black_box(file), black_box(&mut rows));
+            all.wrapping_add(sum((verdict, place)) ^ u64::from(keys))
+        })
+    });
 
     #[inline(always)]
     fn pass(files: &[Vec<u8>], call: impl Fn(&[u8]) -> u64) -> u64 {
@@ -238,7 +247,7 @@ mod measure {
 
     /// So many passes of one call.
     pub fn run(name: &str, passes: usize, files: &[Vec<u8>]) {
-        let found = CALLS.iter().find(|call| call.0 == name);
+        let found = CALLS.iter().chain([&ROWS]).find(|call| call.0 == name);
         let Some((_, call)) = found else { panic!("no call {name}") };
         let total = (0..passes).fold(0u64, |all, _| all.wrapping_add(call(files)));
         println!("{} files, sum {total:016x}", files.len());

@@ -102,6 +102,16 @@ pub fn verdict_of(file: &[u8]) -> (u32, u32) {
     (verdict, place)
 }
 
+/// The verdict, the place and K; the rows are lent.
+#[inline]
+pub fn rows_into(file: &[u8], rows: &mut [[u32; 5]]) -> (u32, u32, u32) {
+    let (mut verdict, mut place, mut keys) = (UNWRITTEN, UNWRITTEN, UNWRITTEN);
+    let (v, p, k) = (&mut verdict, &mut place, &mut keys);
+    // SAFETY: as above, and as many rows are lent as the slice has
+    unsafe { petalbuzz_rows(file.as_ptr(), file.len(), rows.as_mut_ptr(), rows.len(), v, p, k) };
+    (verdict, place, keys)
+}
+
 /// The replies of the library to these questions.
 pub fn ask(questions: &[Question]) -> Vec<Reply> {
     questions.iter().map(reply).collect()

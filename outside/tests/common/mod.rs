@@ -10,7 +10,7 @@ use outside::generator::keyplan::{Encoded, Held, Keys};
 use outside::generator::plan::{Plan, Tag};
 use outside::generator::prng::Random;
 use outside::reader::tables::Family;
-use outside::reader::{listed, Order, Row, Verdict};
+use outside::reader::{key_rows, listed, Order, Row, Verdict};
 
 /// File A, byte by byte: 270 bytes, little-endian.
 pub const FILE_A: [u8; 270] = [
@@ -67,6 +67,14 @@ pub fn verdict(number: u32, place: u32) -> Verdict {
 
 /// A row that no file gives, to see whether lent rows change.
 pub const UNTOUCHED: Row = Row::of([7_777_777, 88, 99, 66, 5]);
+
+/// The rows of a file; none of a refused one.
+pub fn rows(file: &[u8]) -> Vec<Row> {
+    let mut rows = vec![UNTOUCHED; 256];
+    let (_, keys) = key_rows(file, &mut rows);
+    rows.truncate(keys as usize);
+    rows
+}
 
 /// The four corner doubles by their bits.
 pub fn bits(corners: [f64; 4]) -> [u64; 4] {

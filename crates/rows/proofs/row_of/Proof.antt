@@ -13,7 +13,7 @@ row-requires c κs =
     let a = c .before .before .args in
     let p = c .before .before .pre in
     let q = asked (a .file .now) (a .plan) (a .i) (p .2) in
-    rw (c .value .ensures) (p .0, p .1, q .few, q .here, q .entry, q .low)
+    rw (c .value .ensures) (p .0, p .1, q .asks)
 
 returns : tie.Need-returns
 returns c =
