@@ -11,7 +11,7 @@ use Rattle.keys.specs.declared.Starts.{Starts}
 abbrev pub startsIn : Starts → FileStarts
 startsIn s = record { directory = s .directory; doubles = s .doubles; characters = s .characters }
 
--- entry i stands in the key directory d, and its place, with the number in it, and the value's lie below 2 ^ 32
+-- entry i, one of the 256 that there can be, lies in the key directory d; its fourth number and its value begin below 2 ^ 32 in the file
 abbrev pub RowAsked : Bool → List ℕ → FileStarts → ℕ → Type 0
 RowAsked big d s i =
     (i < 256) × (8 * i + 16 ≤ length d) × (entryPlace s i + 6 < 4294967296) × (rowOf s i (keyAt (runs big d [] []) i) .first < 4294967296)
