@@ -1,4 +1,6 @@
 // The bench program: judges standard input, of at most 65,536 bytes, and prints the verdict and, of an accepted file, its key rows.
+#![tactic(auto)]
+
 use libc::{STDIN_FILENO, STDOUT_FILENO};
 
 fn main() {

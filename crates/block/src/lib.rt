@@ -1,5 +1,7 @@
 // The key block: the keys of an accepted file with their values, written into lent bytes, little-endian and without gaps or sharing; and three
 // such runs read back without a file.
+#![tactic(auto)]
+
 ghost use Rattle.std.specs.Prelude.{◌≡◌, not, ◌&&◌, [], ◌∷◌, ◌+◌, ◌*◌, ◌≤◌, ltb, eqb, length, drop};
 ghost use Rattle.paper.specs.Bytes.{num, enc, elems};
 ghost use Rattle.paper.specs.Calls.{reading_back};

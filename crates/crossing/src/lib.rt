@@ -1,6 +1,8 @@
 // Where the picture of an image and that of its mask may lie: rules 13 and 14 of the mask. The full reading list is that of both directories, and neither
 // picture may share a byte with it. The image's own picture is clear of the image's own list, so that three of the four cases are left: the mask's places
 // against both lists, and the image's against the mask's. `SLOTS` is of the image's table, `table::SLOTS` of the mask's.
+#![tactic(auto)]
+
 ghost use Rattle.std.specs.Prelude.{◌≡◌, ◌*◌, ◌≤◌, length};
 ghost use Rattle.paper.specs.Pieces.{touches};
 ghost use Rattle.paper.specs.Tags.{table, mask_table};

@@ -1,6 +1,8 @@
 // The place on the ground and rules 20 to 22, from the runs of the scale, the tiepoint and the matrix. A double's bits are tested before
 // it is made a number, and every operation is rounded once, in the written order. Each run is read whole by a function that is called
 // at one place, so that the compiler puts it there and a double is one load.
+#![tactic(auto)]
+
 ghost use Rattle.std.specs.Prelude.{◌≡◌, true, ◌&&◌, []};
 ghost use Rattle.std.specs.Float.{binary64};
 ghost use Rattle.std.specs.Float.Ieee.{of_bits};

@@ -1,6 +1,8 @@
 // The image of a file, rules 1 to 7, 9 to 14 and 27: its head, its directory by the table, where its pieces lie. What it leaves is the picture's size, the
 // byte order, where the directory stands, the next offset and, where that leads to a mask, the span of the pieces; where the values stand that others read,
 // and where 50909 stands more than once. The survey judges some of these, the mask others.
+#![tactic(auto)]
+
 ghost use Rattle.std.specs.Prelude.{◌≡◌, ◌<◌, get_or};
 ghost use Rattle.paper.specs.Tags.{table};
 ghost use Rattle.paper.specs.Judge.{picture_stage};

@@ -1,5 +1,7 @@
 // The whole judgement of a file: its image, rules 1 to 14 and 27, then the survey over the values that the image names, rules 15 to 22, then the mask that it
 // may have, rule 28.
+#![tactic(auto)]
+
 ghost use Rattle.std.specs.Prelude.{◌≡◌};
 ghost use Rattle.paper.specs.Calls.{judged_of};
 ghost use Rattle.judge.specs.Examining.{not_examined, examined_of, not_own, own_of};

@@ -1,5 +1,7 @@
 // The key directory: rules 15 to 19 over the values of 34735, 34736 and 34737, and the kinds of the known keys. After rule 15 one pass from
 // the last key entry to the first finds what rules 16 to 19 ask for.
+#![tactic(auto)]
+
 ghost use Rattle.std.specs.Prelude.{◌≡◌, false, ◌&&◌, [], ◌∷◌, ◌+◌, ◌*◌, ◌≤◌, ◌<◌, leb, length};
 ghost use Rattle.paper.specs.Tests.{just};
 ghost use Rattle.paper.specs.Keys.{kind_of, key_at, room, in_entry, right_place};

@@ -1,6 +1,8 @@
 // The layout of a file: its head, and of a directory its offset, its count and its entries, rules 1 to 7; where the tags of a table stand, and tag
 // 50909 where it stands more than once; an entry's value. `scan` passes over the directory that every file has. It is compiled into its one caller with
 // the caller's table, which a second caller would undo: a directory that few files have is judged by the plainer `judge_entries` and `find`.
+#![tactic(auto)]
+
 ghost use Rattle.std.specs.Prelude.{◌≡◌, not, ◌||◌, [], map, ℕ, ◌+◌, ◌*◌, ◌≤◌, ◌<◌, ltb, length, get_or};
 ghost use Rattle.paper.specs.Bytes.{run};
 ghost use Rattle.paper.specs.declared.Outcome.TheVariants.{Kept as kept};

@@ -1,5 +1,7 @@
 // The lines of a table of tags, of any table: a row of numbers for each tag, as document 01 prints its table. Rules 9 and 10 go through the lines with the
 // columns that a pass over a directory left: where each tag's value starts, its type and its count. An absent tag has 0 in all of them.
+#![tactic(auto)]
+
 ghost use Rattle.std.specs.Prelude.{◌≡◌, [], ◌*◌, ◌≤◌, ◌<◌, min, length, get_or};
 ghost use Rattle.paper.specs.Layout.{dir_len, entries};
 ghost use Rattle.layout.specs.Finding.{place_in, found_of};

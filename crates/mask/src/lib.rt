@@ -1,5 +1,7 @@
 // The mask's table of tags: rules 27 and 9 to 12 over what was found of each tag of the mask's directory, in the table's order: its type, its count, where
 // its value starts and how long it is. An absent tag has 0 in all four. Of a broken rule only its number is told.
+#![tactic(auto)]
+
 ghost use Rattle.std.specs.Prelude.{◌≡◌, false, ◌≤◌};
 ghost use Rattle.paper.specs.Tags.{mask_table};
 ghost use Rattle.paper.specs.declared.Outcome.TheVariants.{Kept as kept};

@@ -1,5 +1,7 @@
 // Numbers of a file in either byte order: SHORT, LONG and the 64 bits of a DOUBLE at a place of a run. Each order is spelled whole in a
 // function of its own, the byte that counts least first, so that a number is one load.
+#![tactic(auto)]
+
 ghost use Rattle.std.specs.Prelude.{◌≡◌, true, false, ◌+◌, ◌*◌, ◌≤◌, ◌<◌, length};
 ghost use Rattle.paper.specs.Bytes.{num};
 ghost use Rattle.order.specs.Width.{width};

@@ -1,5 +1,7 @@
 // Outcomes of rules and the verdict of several, as code makes them one after the other. In a loop an outcome is a number: the place where the rule is
 // broken, or NONE.
+#![tactic(auto)]
+
 ghost use Rattle.std.specs.Prelude.{◌≡◌, cond, ◌≤◌};
 ghost use Rattle.paper.specs.Outcome.{or_else};
 ghost use Rattle.outcomes.specs.Told.{told_by};

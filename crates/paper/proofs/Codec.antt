@@ -86,7 +86,8 @@ sum_at l (e ∷ es) (suc i) = count_if_at l e + sum_at l es i
 pub length_moved : (a d c : ℕ) (es : List KeyEntry) → length (moved a d c es) ≡ length es
 unfolding moved
 length_moved a d c [] = refl
-length_moved a d c (e ∷ es) = ap suc (length_moved _ _ _ es)
+length_moved a d c (e ∷ es) =
+    ap suc (length_moved (a + count_if_at 34735 e) (d + count_if_at 34736 e) (c + count_if_at 34737 e) es)
 
 pub moved_at : (a d c : ℕ) (es : List KeyEntry) (i : ℕ) → i < length es
     → get_or (moved a d c es) i no_key_entry

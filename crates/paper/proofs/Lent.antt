@@ -36,14 +36,25 @@ use Rattle.paper.specs.declared.Block.{Block}
 abbrev Only : List ℕ → List Rule → Type 0
 Only ks rs = all (λ r. among r.number ks) rs ≡ true
 
+-- a rule that is kept leaves the others
+first_others : (r : Rule) (rs : List Rule) → r.outcome ≡ kept → first (r ∷ rs) ≡ first rs
+unfolding first
+first_others r rs e = rw e
+
+-- and one that is broken gives its number
+first_number : (r : Rule) (rs : List Rule) (q : ℕ) → r.outcome ≡ broken q → (first (r ∷ rs)).number ≡ r.number
+unfolding first
+first_number r rs q e = rw e
+
 first-among : (ks : List ℕ) (rs : List Rule) → Only ks rs → among (first rs).number (0 ∷ ks) ≡ true
 unfolding first all some
 first-among ks [] p = refl
 first-among ks (r ∷ rs) p = go r.outcome refl (first-among ks rs (and-eq (among r.number ks) _ p).1)
   where
     go : (o : Outcome) → r.outcome ≡ o → among (first rs).number (0 ∷ ks) ≡ true → among (first (r ∷ rs)).number (0 ∷ ks) ≡ true
-    go kept e h = rw e h
-    go (broken q) e h = rw (e, (and-eq (among r.number ks) _ p).0, or-true)
+    go kept e h = subst (λ (v : Verdict). among v.number (0 ∷ ks) ≡ true) (sym (first_others r rs e)) h
+    go (broken q) e h =
+        subst (λ (n : ℕ). among n (0 ∷ ks) ≡ true) (sym (first_number r rs q e)) (rw ((and-eq (among r.number ks) _ p).0, or-true))
 
 first_gives : (ks : List ℕ) (rs : List Rule) → From 1 rs → Only ks rs → Gives ks (first rs)
 first_gives ks rs p q =

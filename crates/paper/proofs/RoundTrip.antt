@@ -85,7 +85,8 @@ length-entries (e ∷ es) = omega (arith, length-entries es)
 keys-moved : (a d c : ℕ) (es : List KeyEntry) → map (λ e. e.key) (moved a d c es) ≡ map (λ e. e.key) es
 unfolding moved
 keys-moved a d c [] = refl
-keys-moved a d c (e ∷ es) = ap (λ (xs : List ℕ). e.key ∷ xs) (keys-moved _ _ _ es)
+keys-moved a d c (e ∷ es) =
+    ap (λ (xs : List ℕ). e.key ∷ xs) (keys-moved (a + count_if_at 34735 e) (d + count_if_at 34736 e) (c + count_if_at 34737 e) es)
 
 has-moved : (k a d c : ℕ) (es : List KeyEntry) → has_key k (moved a d c es) ≡ has_key k es
 unfolding has_key find_key moved

@@ -1,5 +1,6 @@
 // The types that the calls and the definitions share. Each is passed by value. There is no function here: this crate is the
 // paper. `specs/` says what the rules mean, `proofs/` what follows from them; `proofs/Demands.antt` is the page to read first.
+#![tactic(auto)]
 
 // What every call answers first: 0 or the number of the broken rule, and its place.
 #[derive(Drop)]

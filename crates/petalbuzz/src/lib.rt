@@ -1,5 +1,7 @@
 // The C interface: each call of the judge under a name for C. Numbers are answered through references, a slice is a pointer and a length, and
 // include/petalbuzz.h declares the same for C.
+#![tactic(auto)]
+
 ghost use Rattle.std.specs.Prelude.{◌≡◌, cond, ◌+◌, ◌≤◌, eqb, length};
 ghost use Rattle.paper.specs.Judge.{verdict_of};
 ghost use Rattle.paper.specs.Bytes.{run};

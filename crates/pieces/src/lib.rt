@@ -1,6 +1,8 @@
 // Where the places of a picture may lie: rules 13 and 14 in one pass, each offset and byte count fetched once and tried against all ranges then; and
 // each rule by itself, for a picture that few files have. The places are any two runs of numbers, the reading list any pairs of columns and a run of
 // further entries, so that this serves every kind of picture.
+#![tactic(auto)]
+
 ghost use Rattle.std.specs.Prelude.{◌≡◌, ℕ, ◌+◌, ◌*◌, ◌<◌, ◌≤◌, min, max, true, not, ◌&&◌, ◌||◌, ltb, List, ◌++◌, length, if◌then◌else◌, ◌==◌, nat_lt};
 ghost use Rattle.order.specs.Width.{width};
 ghost use Rattle.paper.specs.Outcome.{or_else, verdict};

@@ -1,4 +1,6 @@
 // What the programs print about a file: its verdict and, if it is accepted, its key rows. Document 01's bench lines, with request C-15's fifth number.
+#![tactic(auto)]
+
 ghost use Rattle.std.specs.Prelude.{◌≤◌};
 
 use libc::STDOUT_FILENO;

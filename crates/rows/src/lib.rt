@@ -1,4 +1,6 @@
 // The key rows of a file: rule 23, one row by value, and the writer of the rows that a caller lends.
+#![tactic(auto)]
+
 ghost use Rattle.std.specs.Prelude.{◌≡◌, ◌≤◌, length};
 ghost use Rattle.paper.specs.Judge.{view};
 ghost use Rattle.paper.specs.Calls.{row_at, rows_of, left_rows};

@@ -1,5 +1,7 @@
 // The second directory of a file, that of a mask: rules 4 to 14 and 27 of it, where the file keeps its own rules. Of the image only what no later look could
 // give is handed on, the span of its pieces; its columns are gathered anew, so that a file without a mask carries nothing for one.
+#![tactic(auto)]
+
 ghost use Rattle.std.specs.Prelude.{◌≡◌};
 ghost use Rattle.paper.specs.Judge.{mask_verdict};
 ghost use Rattle.second.specs.Before.{Before, Second, Columned, Third, crossed};

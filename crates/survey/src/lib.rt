@@ -1,4 +1,6 @@
 // The survey, rules 15 to 22: the keys and the ground, over runs of bytes, their byte order and the size of the picture, without a file.
+#![tactic(auto)]
+
 ghost use Rattle.std.specs.Prelude.{◌≡◌};
 ghost use Rattle.paper.specs.Calls.{not_judged};
 ghost use Rattle.keys.specs.Pass.{runs};

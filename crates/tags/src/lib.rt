@@ -1,5 +1,7 @@
 // The image's table of tags: rules 27 and 9 to 12 over what one pass over the directory found of each tag, in the table's order: its type, its count,
 // where its value starts and how long it is. An absent tag has 0 in all four.
+#![tactic(auto)]
+
 ghost use Rattle.std.specs.Prelude.{◌≡◌, false, not, ◌&&◌, ◌||◌, ◌+◌, ◌*◌, ◌≤◌, ◌<◌, [], ◌∷◌, length};
 ghost use Rattle.paper.specs.Tests.{between, allows};
 ghost use Rattle.paper.specs.Tags.{table, sixteens, rounded_up};

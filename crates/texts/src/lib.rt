@@ -1,4 +1,6 @@
 // The citation of a key and the metadata texts of a file: where they stand, by value, and as parts of what was lent, without a copy.
+#![tactic(auto)]
+
 ghost use Rattle.std.specs.Prelude.{◌≡◌, cond, [], ℕ, ◌+◌, ◌*◌, ◌≤◌, ◌<◌, eqb, length};
 ghost use Rattle.paper.specs.Bytes.{build};
 ghost use Rattle.paper.specs.Keys.{key_at, find_key};

@@ -1,4 +1,6 @@
 // A trial of the crates `layout` and `lines`: a small table that is not the image's is judged by the same functions. It prints the verdict of six files.
+#![tactic(auto)]
+
 ghost use Rattle.std.specs.Prelude.{◌≡◌, ◌<◌};
 ghost use Rattle.layout.specs.Opening.{headed_of, LaidAt};
 ghost use Rattle.layout.specs.declared.Headed.TheVariants.{Good};

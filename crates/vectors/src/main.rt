@@ -1,4 +1,6 @@
 // Judges each file that an argument names, of at most 65,536 bytes, and prints of each what the bench program prints, behind its name.
+#![tactic(auto)]
+
 use libc::STDOUT_FILENO;
 
 // The file that argument i names.

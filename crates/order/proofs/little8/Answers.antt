@@ -1,0 +1,11 @@
+-- `little8`: 8 bytes of which the first byte counts least. Assumes nothing.
+use native.Mathlib.Omega.{arith}
+use mathlib.Core.Bool.{false}
+use Rattle.order.proofs.Sums.{spelled}
+use borrow.Author.Rules.{rules}
+use Rattle.order.proofs.little8.Goals as goal
+
+pub returns : goal.returns
+returns c =
+    let a = c.args in
+    omega (arith, spelled a.s.now a.at false 7)
