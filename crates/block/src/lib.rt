@@ -16,7 +16,7 @@ use paper::{Block, BlockRead, KeyEntry, Outcome, Verdict};
 
 // What the pass before the writing finds: the first key whose value would start too far, or else how many elements each of the three parts has,
 // the numbers of header and entries counted among the SHORTs.
-#[derive(Drop)]
+#[derive(Clone, Copy)]
 pub struct Sizes {
     pub far: Outcome,
     pub shorts: usize,

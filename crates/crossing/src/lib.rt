@@ -21,7 +21,7 @@ use tags::table::SLOTS;
 
 // The runs that say where the pieces of a picture lie: those of the offsets and of the byte counts as parts of the file, whether each is of LONGs, and how
 // many pieces there are.
-#[derive(Drop)]
+#[derive(Clone, Copy)]
 struct Runs {
     offsets: Part,
     bytecounts: Part,

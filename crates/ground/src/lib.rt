@@ -15,14 +15,14 @@ ghost use Rattle.ground.specs.Steps.{surveyed, scaled_of, affine_of, placed_at, 
 use paper::{Corners, Georeference, Verdict};
 
 // A place on the ground.
-#[derive(Drop)]
+#[derive(Clone, Copy)]
 pub struct Place {
     pub x: f64,
     pub y: f64,
 }
 
 // What rules 20 to 22 answer: the verdict, and with 0 the georeference and the corners.
-#[derive(Drop)]
+#[derive(Clone, Copy)]
 pub struct Ground {
     pub verdict: Verdict,
     pub georeference: Georeference,
@@ -30,7 +30,7 @@ pub struct Ground {
 }
 
 // The bits of three doubles: the scale, or one half of the tiepoint.
-#[derive(Drop)]
+#[derive(Clone, Copy)]
 struct Triple {
     a: u64,
     b: u64,
@@ -38,14 +38,14 @@ struct Triple {
 }
 
 // The tiepoint's bits: a pixel, and its place on the ground.
-#[derive(Drop)]
+#[derive(Clone, Copy)]
 struct Tiepoint {
     pixel: Triple,
     place: Triple,
 }
 
 // The bits of four doubles: a row of the matrix.
-#[derive(Drop)]
+#[derive(Clone, Copy)]
 struct Quad {
     a: u64,
     b: u64,
@@ -54,7 +54,7 @@ struct Quad {
 }
 
 // The matrix's bits, row by row.
-#[derive(Drop)]
+#[derive(Clone, Copy)]
 struct Matrix {
     first: Quad,
     second: Quad,

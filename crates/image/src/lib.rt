@@ -22,7 +22,7 @@ use tags::table::SLOTS;
 // What these rules find of a file: their verdict, the byte order, the picture's width and length, where the directory stands, the next offset, the span of
 // the pieces where that is not 0, and where the values stand that the survey and the other calls ask for. With a broken rule all but the verdict is 0,
 // false or empty.
-#[derive(Drop)]
+#[derive(Clone, Copy)]
 pub struct Image {
     pub verdict: Verdict,
     pub big: bool,

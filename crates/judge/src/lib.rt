@@ -11,7 +11,7 @@ use paper::{Judged, Part, Verdict};
 use pieces::Span;
 
 // What one examination of a file finds: the judgement, and of the image what the other calls ask for.
-#[derive(Drop)]
+#[derive(Clone, Copy)]
 pub struct Examined {
     pub judged: Judged,
     pub big: bool,
@@ -26,7 +26,7 @@ pub struct Examined {
 
 // What the file's own rules find: what is examined by them, and for a mask where the directory stands, the next offset and, where that is not 0, the span of
 // the pieces.
-#[derive(Drop)]
+#[derive(Clone, Copy)]
 pub struct Own {
     pub examined: Examined,
     pub at: usize,

@@ -15,7 +15,7 @@ ghost use Rattle.keys.specs.Pass.{needed, wrong, one_or_two, zones, heights, all
 use paper::{KeyEntry, Outcome, Row, Verdict};
 
 // What the judgement of the keys answers: verdict, the number of keys K, the minor revision, and whether raster type is PixelIsPoint.
-#[derive(Drop)]
+#[derive(Clone, Copy)]
 pub struct KeysJudged {
     pub verdict: Verdict,
     pub keys: u32,
@@ -24,14 +24,14 @@ pub struct KeysJudged {
 }
 
 // What the reading of the key directory's header says: rule 15 is broken at a place, or the minor revision and K that were found.
-#[derive(Drop)]
+#[derive(Clone, Copy)]
 enum Header {
     Bad(u32),
     Good { minor: u32, count: usize },
 }
 
 // Where the values of 34735, 34736 and 34737 start in the file.
-#[derive(Drop)]
+#[derive(Clone, Copy)]
 pub struct Starts {
     pub directory: usize,
     pub doubles: usize,

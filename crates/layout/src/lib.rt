@@ -16,14 +16,14 @@ ghost use Rattle.layout.specs.Columns.{Columns};
 use paper::{Entry, Verdict};
 
 // What rules 1 to 3 answer: the number and place of the first broken one, or whether the file is big-endian and the directory's offset.
-#[derive(Drop)]
+#[derive(Clone, Copy)]
 pub enum Headed {
     Bad(u32, u32),
     Good(bool, u32),
 }
 
 // What rules 4 and 5 answer for a directory at an offset: the number and place of the first broken one, or its count.
-#[derive(Drop)]
+#[derive(Clone, Copy)]
 pub enum Opened {
     Refused(u32, u32),
     Laid(usize),
@@ -31,14 +31,14 @@ pub enum Opened {
 
 // Where the entries of tag 50909 stand behind the first of them: where the second starts in the file, and how many there are from it on. Both are 0
 // where there is at most one.
-#[derive(Drop)]
+#[derive(Clone, Copy)]
 pub struct Further {
     pub start: usize,
     pub many: usize,
 }
 
 // What rules 6 and 7 answer for a directory, its next offset, and where rule 6 is kept the further entries of 50909.
-#[derive(Drop)]
+#[derive(Clone, Copy)]
 pub struct Scanned {
     pub verdict: Verdict,
     pub next: u32,
@@ -46,7 +46,7 @@ pub struct Scanned {
 }
 
 // What rule 6 says, as a number, and where it is kept the further entries of 50909.
-#[derive(Drop)]
+#[derive(Clone, Copy)]
 pub struct Ordered {
     pub six: usize,
     pub further: Further,

@@ -17,7 +17,7 @@ use table::SLOTS;
 pub mod table;
 
 // How the picture is cut: the rows of a strip, or the sides of a tile. What is not asked for counts as a number that is allowed.
-#[derive(Drop)]
+#[derive(Clone, Copy)]
 pub struct Cut {
     pub rows: usize,
     pub tilewidth: usize,
@@ -25,7 +25,7 @@ pub struct Cut {
 }
 
 // What rules 27 and 9 to 12 answer: the number of the first that is broken, and where it is 0 whether the mask is in tiles.
-#[derive(Drop)]
+#[derive(Clone, Copy)]
 pub struct Tagged {
     pub number: u32,
     pub tiled: bool,

@@ -3,28 +3,28 @@
 #![tactic(auto)]
 
 // What every call answers first: 0 or the number of the broken rule, and its place.
-#[derive(Drop)]
+#[derive(Clone, Copy)]
 pub struct Verdict {
     pub number: u32,
     pub place: u32,
 }
 
 // What one rule answers: it is kept, or it is broken at a place.
-#[derive(Drop)]
+#[derive(Clone, Copy)]
 pub enum Outcome {
     Kept,
     Broken(u32),
 }
 
 // A part of a file: so many bytes from a start.
-#[derive(Drop)]
+#[derive(Clone, Copy)]
 pub struct Part {
     pub start: usize,
     pub len: usize,
 }
 
 // An entry of a directory: its tag, type and count, where its value starts in the file and how many bytes it has.
-#[derive(Drop)]
+#[derive(Clone, Copy)]
 pub struct Entry {
     pub tag: usize,
     pub typ: usize,
@@ -34,7 +34,7 @@ pub struct Entry {
 }
 
 // An entry of the key directory, as it stands there. The index is the number itself at location 0.
-#[derive(Drop)]
+#[derive(Clone, Copy)]
 pub struct KeyEntry {
     pub key: usize,
     pub location: usize,
@@ -45,7 +45,7 @@ pub struct KeyEntry {
 // A key row: key, kind (0 SHORT, 1 DOUBLE, 2 ASCII, 3 other), first byte in the file, length in bytes, and where the key's entry stands in the file. C lends rows
 // of this layout.
 #[repr(C)]
-#[derive(Drop)]
+#[derive(Clone, Copy)]
 pub struct Row {
     pub key: u32,
     pub kind: u32,
@@ -55,7 +55,7 @@ pub struct Row {
 }
 
 // The georeference: scaled, from tiepoint and scale, or affine, with the matrix's elements counted from 1.
-#[derive(Drop)]
+#[derive(Clone, Copy)]
 pub enum Georeference {
     Scaled {
         ti: f64,
@@ -76,7 +76,7 @@ pub enum Georeference {
 }
 
 // The two corners: where (0, 0) lies on the ground, and where the far end of the picture does.
-#[derive(Drop)]
+#[derive(Clone, Copy)]
 pub struct Corners {
     pub x0: f64,
     pub y0: f64,
@@ -85,7 +85,7 @@ pub struct Corners {
 }
 
 // The whole judgement of a file: verdict, the number of keys K, the minor revision of its key header, and its place on the ground.
-#[derive(Drop)]
+#[derive(Clone, Copy)]
 pub struct Judged {
     pub verdict: Verdict,
     pub keys: u32,
@@ -95,14 +95,14 @@ pub struct Judged {
 }
 
 // What the call for rows answers: verdict and K.
-#[derive(Drop)]
+#[derive(Clone, Copy)]
 pub struct Counted {
     pub verdict: Verdict,
     pub keys: u32,
 }
 
 // What the call that reads a key block back answers: verdict, K and the minor revision.
-#[derive(Drop)]
+#[derive(Clone, Copy)]
 pub struct BlockRead {
     pub verdict: Verdict,
     pub keys: u32,
@@ -110,7 +110,7 @@ pub struct BlockRead {
 }
 
 // Where a citation stands in the file.
-#[derive(Drop)]
+#[derive(Clone, Copy)]
 pub struct Cited {
     pub verdict: Verdict,
     pub start: usize,
@@ -118,7 +118,7 @@ pub struct Cited {
 }
 
 // Where a metadata text stands: in the file (from 0) or in the outside text (from 1).
-#[derive(Drop)]
+#[derive(Clone, Copy)]
 pub struct Text {
     pub verdict: Verdict,
     pub from: u32,
@@ -127,7 +127,7 @@ pub struct Text {
 }
 
 // The three lengths of the key block, in bytes.
-#[derive(Drop)]
+#[derive(Clone, Copy)]
 pub struct Block {
     pub verdict: Verdict,
     pub directory: usize,

@@ -16,21 +16,21 @@ ghost use Rattle.pieces.specs.Spans.{no_span, widened, span_of, placed, within_o
 use paper::Verdict;
 
 // A gap of the reading list around a byte: no byte from lo up to hi is on it. Where the byte itself is on the list, it lies below lo.
-#[derive(Drop)]
+#[derive(Clone, Copy)]
 pub struct Gap {
     pub lo: usize,
     pub hi: usize,
 }
 
 // The span of some places: from the lowest start up to the highest end.
-#[derive(Drop)]
+#[derive(Clone, Copy)]
 pub struct Span {
     pub low: usize,
     pub high: usize,
 }
 
 // A place at which a search stopped, with its offset and byte count.
-#[derive(Drop)]
+#[derive(Clone, Copy)]
 pub struct Stop {
     pub at: usize,
     pub start: usize,
@@ -38,14 +38,14 @@ pub struct Stop {
 }
 
 // The same with the span of the places before it.
-#[derive(Drop)]
+#[derive(Clone, Copy)]
 pub struct Reach {
     pub stop: Stop,
     pub span: Span,
 }
 
 // What rules 13 and 14, or 13 alone, say of all places, and their span where one is asked for and they are kept.
-#[derive(Drop)]
+#[derive(Clone, Copy)]
 pub struct Placed {
     pub verdict: Verdict,
     pub span: Span,

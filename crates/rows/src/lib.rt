@@ -11,7 +11,7 @@ use keys::Starts;
 use paper::{Counted, Row, Verdict};
 
 // All that a row is made of: the byte order, where the key directory stands, and where the doubles and the characters start.
-#[derive(Drop)]
+#[derive(Clone, Copy)]
 pub struct Plan {
     pub big: bool,
     pub start: usize,
@@ -21,14 +21,14 @@ pub struct Plan {
 }
 
 // Verdict and K for so many lent rows, with the plan of the rows.
-#[derive(Drop)]
+#[derive(Clone, Copy)]
 pub struct Planned {
     pub counted: Counted,
     pub plan: Plan,
 }
 
 // Verdict, K and 256 rows.
-#[derive(Drop)]
+#[derive(Clone, Copy)]
 pub struct Lent {
     pub counted: Counted,
     pub rows: [Row; 256],

@@ -21,7 +21,7 @@ pub mod table;
 const MORE: usize = lines::MORE as usize;
 
 // The tags with one number each, and that number; one that is not asked for counts as a number that is allowed.
-#[derive(Drop)]
+#[derive(Clone, Copy)]
 pub struct Numbers {
     pub width: usize,
     pub length: usize,
@@ -35,7 +35,7 @@ pub struct Numbers {
 }
 
 // What the values of 258 say: the first, whether all are allowed, whether all are the first.
-#[derive(Drop)]
+#[derive(Clone, Copy)]
 pub struct Bits {
     pub first: usize,
     pub allowed: bool,
@@ -43,7 +43,7 @@ pub struct Bits {
 }
 
 // What rules 27 and 9 to 12 answer: the verdict, and where it is 0 the picture's width and length and whether it is in tiles.
-#[derive(Drop)]
+#[derive(Clone, Copy)]
 pub struct Tagged {
     pub verdict: Verdict,
     pub width: u32,

@@ -1,0 +1,11 @@
+-- `order_again` passes over the tags from the last to the first; its turns are laws of `Ordering`. Assumes nothing.
+use native.Mathlib.Omega.{arith}
+use borrow.Author.Rules.{rules}
+use Rattle.layout.proofs.Ordering.{Counting, count-start, count-text, count-other, second, count_none, count-some}
+use Rattle.layout.proofs.order_again.Given as goal
+
+abbrev pub invariant-loop-i : goal.invariant-loop-i
+invariant-loop-i l = Counting l.big l.at l.c l.dir l.i l.six l.next l.first l.many
+
+abbrev pub decreases-loop-i : goal.decreases-loop-i
+decreases-loop-i l = l.i

@@ -1,0 +1,18 @@
+-- `span_run` passes by the places that lie in the gap, and widens the span by them. Assumes nothing.
+use Rattle.std.proofs.Common.{◌≡◌, ◌-◌, ◌≤◌, arith, rules}
+use Rattle.order.specs.Width.{width}
+use Rattle.pieces.specs.Gaps.{from_place}
+use Rattle.pieces.specs.Spans.{span_from}
+use Rattle.pieces.proofs.Passing.{next_fits, Passed, passed_start, passed-turn, reached-turn, reached-stop, reached-end}
+use Rattle.pieces.proofs.span_run.Given as goal
+
+abbrev pub invariant-loop-i : goal.invariant-loop-i
+invariant-loop-i l =
+    (l.from ≤ l.i)
+    × (l.i ≤ l.k)
+    × Passed l.big (width l.wideoffsets) l.offsets (width l.widebytecounts) l.bytecounts l.k l.lo l.hi l.from l.i
+    × (span_from l.initial.wider (from_place l.big (width l.wideoffsets) l.offsets (width l.widebytecounts) l.bytecounts l.from l.k)
+    ≡ span_from l.wider (from_place l.big (width l.wideoffsets) l.offsets (width l.widebytecounts) l.bytecounts l.i l.k))
+
+abbrev pub decreases-loop-i : goal.decreases-loop-i
+decreases-loop-i l = l.k - l.i
