@@ -1,6 +1,6 @@
 -- Rules 11 and 12 of a mask over the values, as tests that all pass where the rule is kept. Assumes nothing.
 use Prim.Native.Nat.{ℕ, zero, suc, ◌*◌, ◌<◌}
-use mathlib.Core.Path.{◌≡◌, refl, sym, ap₂, ◌∙◌}
+use mathlib.Core.Path.{◌≡◌, refl, sym, ap₂, ◌∙◌, subst}
 use mathlib.Core.Bool.{Bool, true, false, cond, not, ◌&&◌, ◌||◌, and-true, and-false}
 use mathlib.Core.List.{List, [], ◌∷◌}
 use native.Mathlib.Nat.{not-suc-le-zero, mul-zero}
@@ -90,7 +90,9 @@ unfolding all
 ones x xs = go (eqb x 1) refl
   where
     go : (b : Bool) → eqb x 1 ≡ b → all (eqb x) (x ∷ xs) && eqb x 1 ≡ all (allows (just 1 ∷ [])) (x ∷ xs)
-    go true e = let o = eqb-true x 1 e in rw o (and-true (all (eqb 1) (1 ∷ xs)) ∙ same_tests (eqb 1) (allows (just 1 ∷ [])) turned (1 ∷ xs))
+    go true e =
+        subst (λ (y : ℕ). all (eqb y) (y ∷ xs) && eqb y 1 ≡ all (allows (just 1 ∷ [])) (y ∷ xs)) (sym (eqb-true x 1 e))
+        (and-true (all (eqb 1) (1 ∷ xs)) ∙ same_tests (eqb 1) (allows (just 1 ∷ [])) turned (1 ∷ xs))
     go false e = rw (e, just-one x 1, e) (and-false (all (eqb x) (x ∷ xs)))
 
 pub one_bit : (big : Bool) (hs : List Held) → 0 < count_of Tag.bits hs → all_one (bits_of big hs) ≡ all (allows (just 1 ∷ [])) (values_of big Tag.bits hs)

@@ -1,0 +1,17 @@
+-- `image_at` opens the directory at the place that the head names. Assumes nothing.
+use mathlib.Core.Path.{sym, ◌∙◌}
+use borrow.Author.Rules.{rules}
+use Rattle.layout.proofs.Opening.{head-good}
+use Rattle.image.proofs.Imaging.{opened-bad}
+use Rattle.image.proofs.image_at.Goals as goal
+
+pub open-o-requires : goal.open-o-requires
+open-o-requires c = (head-good _ _ _ c.requires).size
+
+pub image_laid-requires : goal.image_laid-requires
+image_laid-requires c = record { head = c.requires; count = sym c.open-o.ensures ∙ c.in-Laid.is }
+
+pub returns-in-Refused : goal.returns-in-Refused
+returns-in-Refused c =
+    c.no_image.ensures
+    ∙ opened-bad _ c.requires (sym c.open-o.ensures ∙ c.in-Refused.is)
