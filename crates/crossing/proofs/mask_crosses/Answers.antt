@@ -1,0 +1,14 @@
+-- `mask_crosses` hands both lists over: what the further entries name, the image's columns, the mask's, and then the head and the two directories. Assumes nothing.
+use Rattle.crossing.proofs.Apart.{both-listed, both-ends-low, columns, later-long}
+use native.Mathlib.Omega.{arith}
+use borrow.Author.Rules.{rules}
+use Rattle.crossing.proofs.mask_crosses.Goals as goal
+
+pub crosses-requires : goal.crosses-requires
+crosses-requires c =
+    let p = c.requires in
+    let e = both-ends-low p.5 p.3 in
+    (p.0, p.1, p.2, later-long _ _ p.4 c.value-later.ensures, columns p.3, columns p.5, (omega arith, omega arith, e.0, e.1))
+
+pub returns : goal.returns
+returns c = both-listed _ _ _ _ _ _ _ _ _ _ _ _ c.value-later.ensures c.crosses.ensures
