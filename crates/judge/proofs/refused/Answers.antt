@@ -1,0 +1,6 @@
+-- `refused` has nothing beside the verdict. Assumes nothing.
+use borrow.Author.Rules.{rules}
+use Rattle.judge.proofs.refused.Goals as goal
+
+pub returns : goal.returns
+returns c = rw c.not_judged.ensures
