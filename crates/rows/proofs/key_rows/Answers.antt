@@ -35,7 +35,6 @@ use denote.Struct.Laws as LL
 use denote.Signature.{plain}
 use denote.Triple.Entry.{on_entry}
 use denote.Triple.Spec.{Meets, triple_of}
-use denote.Triple.Statement.{Contract, Triple}
 use denote.Triple.Call.{calls_at}
 use denote.Triple.Clauses.{ensured, lasts}
 use denote.Triple.Table.{entered, cited}
@@ -67,6 +66,7 @@ use Rattle.rows.specs.contracts.key_rows.Key.{name as #rows·key-rows}
 use Rattle.rows.specs.contracts.key_rows as key-rows
 use Rattle.rows.proofs.key_rows.Statement as stated
 use Rattle.rows.proofs.key_rows.Code as code
+use Rattle.rows.proofs.key_rows.Goals as goal
 
 abbrev R : RattleType
 R = T.the_row
@@ -257,12 +257,3 @@ key-rows-meets {𝓤 = 𝓤} 𝓛 mem run 𝓣 known-count known-write =
     ) (key-rows.clauses 𝓛 mem run)
     (WpFn 𝓤 𝓛.H 𝓣.C 𝓣.Λ code.function) (WpFn-mono 𝓤 𝓛.H 𝓛.laws 𝓣 code.function) (key-rows-walks 𝓛 mem run 𝓣.C 𝓣.Λ
     (fm_of 𝓤 𝓛.H 𝓛.laws 𝓣) known-count known-write)
-
-pub key-rows-spec : {M : Type 1} → stated.statement M
-unfolding code.routine tables_of
-key-rows-spec 𝓤 𝓛 𝓜 𝓡 =
-    entered 𝓤 𝓛.H (triple_of 𝓛 key-rows.signature (key-rows.spec 𝓛 𝓜.mem 𝓡.run))
-    (tables 𝓤 𝓛.H 𝓜 𝓡 code.env).C (tables 𝓤 𝓛.H 𝓜 𝓡 code.env).Λ #rows·key-rows code.function (code.unfolded 𝓤 𝓛.H 𝓜 𝓡)
-    (key-rows-meets 𝓛 𝓜.mem 𝓡.run (tables_of 𝓤 𝓛.H 𝓜 (tables 𝓤 𝓛.H 𝓜 𝓡 code.env))
-    (cited 𝓤 𝓛.H (Count 𝓛 𝓜.mem 𝓡.run) 𝓜 𝓡 code.env #rows·count count-def.routine code.calls-rows::count (count-thm.met 𝓤 𝓛 𝓜 𝓡))
-    (cited 𝓤 𝓛.H (Write 𝓛 𝓜.mem 𝓡.run) 𝓜 𝓡 code.env #rows·write write_def.routine code.calls-rows::write (write_thm.met 𝓤 𝓛 𝓜 𝓡)))

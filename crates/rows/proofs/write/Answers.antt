@@ -37,7 +37,6 @@ use denote.Struct.Laws as LL
 use denote.Signature.{plain}
 use denote.Triple.Entry.{on_entry}
 use denote.Triple.Spec.{Meets, triple_of}
-use denote.Triple.Statement.{Contract, Triple}
 use denote.Triple.Call.{calls_at}
 use denote.Triple.Clauses.{ensured, lasts}
 use denote.Triple.Table.{entered, cited}
@@ -71,6 +70,7 @@ use Rattle.rows.specs.contracts.write.Key.{name as #rows·write}
 use Rattle.rows.specs.contracts.write as write
 use Rattle.rows.proofs.write.Statement as stated
 use Rattle.rows.proofs.write.Code as code
+use Rattle.rows.proofs.write.Goals as goal
 
 abbrev R : RattleType
 R = T.the_row
@@ -322,15 +322,3 @@ write_meets {𝓤 = 𝓤} 𝓛 mem run 𝓣 known-keys known-kinds known-fill =
     (write.clauses 𝓛 mem run)
     (WpFn 𝓤 𝓛.H 𝓣.C 𝓣.Λ code.function) (WpFn-mono 𝓤 𝓛.H 𝓛.laws 𝓣 code.function) (write_walks 𝓛 mem run 𝓣.C 𝓣.Λ
     (fm_of 𝓤 𝓛.H 𝓛.laws 𝓣) known-keys known-kinds known-fill)
-
-pub write_spec : {M : Type 1} → stated.statement M
-unfolding code.routine tables_of
-write_spec 𝓤 𝓛 𝓜 𝓡 =
-    entered 𝓤 𝓛.H (triple_of 𝓛 write.signature (write.spec 𝓛 𝓜.mem 𝓡.run))
-    (tables 𝓤 𝓛.H 𝓜 𝓡 code.env).C (tables 𝓤 𝓛.H 𝓜 𝓡 code.env).Λ #rows·write code.function (code.unfolded 𝓤 𝓛.H 𝓜 𝓡)
-    (write_meets 𝓛 𝓜.mem 𝓡.run (tables_of 𝓤 𝓛.H 𝓜 (tables 𝓤 𝓛.H 𝓜 𝓡 code.env))
-    (cited 𝓤 𝓛.H (TableKeys 𝓛 𝓜.mem 𝓡.run) 𝓜 𝓡 code.env #keys·table-keys table-keys-def.routine code.calls-keys::table-keys
-    (table-keys-thm.met 𝓤 𝓛 𝓜 𝓡))
-    (cited 𝓤 𝓛.H (TableKinds 𝓛 𝓜.mem 𝓡.run) 𝓜 𝓡 code.env #keys·table-kinds table-kinds-def.routine code.calls-keys::table-kinds
-    (table-kinds-thm.met 𝓤 𝓛 𝓜 𝓡))
-    (cited 𝓤 𝓛.H (Fill 𝓛 𝓜.mem 𝓡.run) 𝓜 𝓡 code.env #rows·fill fill-def.routine code.calls-rows::fill (fill-thm.met 𝓤 𝓛 𝓜 𝓡)))

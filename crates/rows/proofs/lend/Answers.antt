@@ -37,7 +37,6 @@ use denote.Struct.Laws as LL
 use denote.Signature.{plain}
 use denote.Triple.Entry.{on_entry}
 use denote.Triple.Spec.{Meets, triple_of}
-use denote.Triple.Statement.{Contract, Triple}
 use denote.Triple.Call.{calls_at}
 use denote.Triple.Clauses.{ensured, lasts}
 use denote.Triple.Table.{entered, cited}
@@ -62,6 +61,7 @@ use Rattle.rows.specs.contracts.lend.Key.{name as #rows·lend}
 use Rattle.rows.specs.contracts.lend as lend
 use Rattle.rows.proofs.lend.Statement as stated
 use Rattle.rows.proofs.lend.Code as code
+use Rattle.rows.proofs.lend.Goals as goal
 
 abbrev R : RattleType
 R = T.the_row
@@ -252,11 +252,3 @@ lend-meets : {M : Type 1} {𝓤 : Ura M} (𝓛 : Logic 𝓤) → (mem : Memory �
 lend-meets {𝓤 = 𝓤} 𝓛 mem run 𝓣 known =
     walk_Meets 𝓛 lend.ended stayed (Goes-none_slice 𝓛 1 (0 ∷ []) tt (plain (λ _. u8)) yes, tt) (lend.clauses 𝓛 mem run)
     (WpFn 𝓤 𝓛.H 𝓣.C 𝓣.Λ code.function) (WpFn-mono 𝓤 𝓛.H 𝓛.laws 𝓣 code.function) (lend-walks 𝓛 mem run 𝓣.C 𝓣.Λ (fm_of 𝓤 𝓛.H 𝓛.laws 𝓣) known)
-
-pub lend_spec : {M : Type 1} → stated.statement M
-unfolding code.routine tables_of
-lend_spec 𝓤 𝓛 𝓜 𝓡 =
-    entered 𝓤 𝓛.H (triple_of 𝓛 lend.signature (lend.spec 𝓛 𝓜.mem 𝓡.run))
-    (tables 𝓤 𝓛.H 𝓜 𝓡 code.env).C (tables 𝓤 𝓛.H 𝓜 𝓡 code.env).Λ #rows·lend code.function (code.unfolded 𝓤 𝓛.H 𝓜 𝓡)
-    (lend-meets 𝓛 𝓜.mem 𝓡.run (tables_of 𝓤 𝓛.H 𝓜 (tables 𝓤 𝓛.H 𝓜 𝓡 code.env))
-    (cited 𝓤 𝓛.H (KeyRows 𝓛 𝓜.mem 𝓡.run) 𝓜 𝓡 code.env #rows·key-rows key-rows-def.routine code.calls-rows::key-rows (key-rows-thm.met 𝓤 𝓛 𝓜 𝓡)))

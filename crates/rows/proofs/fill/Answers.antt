@@ -46,7 +46,6 @@ use denote.Struct.Laws as LL
 use denote.Signature.{plain}
 use denote.Triple.Entry.{on_entry}
 use denote.Triple.Spec.{Meets, triple_of}
-use denote.Triple.Statement.{Contract, Triple}
 use denote.Triple.Call.{calls_at}
 use denote.Triple.Clauses.{ensured, lasts}
 use denote.Triple.Table.{entered, cited}
@@ -75,6 +74,7 @@ use Rattle.rows.specs.contracts.fill as fill
 use Rattle.rows.proofs.fill.Statement as stated
 use Rattle.rows.proofs.fill.Code as code
 use Rattle.rows.proofs.fill.Code.Mir as mirs
+use Rattle.rows.proofs.fill.Goals as goal
 
 abbrev R : RattleType
 R = T.the_row
@@ -409,11 +409,3 @@ fill_meets {𝓤 = 𝓤} 𝓛 mem run 𝓣 known =
     )
     (fill.clauses 𝓛 mem run)
     (WpFn 𝓤 𝓛.H 𝓣.C 𝓣.Λ code.function) (WpFn-mono 𝓤 𝓛.H 𝓛.laws 𝓣 code.function) (fill_walks 𝓛 mem run 𝓣 (fm_of 𝓤 𝓛.H 𝓛.laws 𝓣) known)
-
-pub fill_spec : {M : Type 1} → stated.statement M
-unfolding code.routine tables_of
-fill_spec 𝓤 𝓛 𝓜 𝓡 =
-    entered 𝓤 𝓛.H (triple_of 𝓛 fill.signature (fill.spec 𝓛 𝓜.mem 𝓡.run))
-    (tables 𝓤 𝓛.H 𝓜 𝓡 code.env).C (tables 𝓤 𝓛.H 𝓜 𝓡 code.env).Λ #rows·fill code.function (code.unfolded 𝓤 𝓛.H 𝓜 𝓡)
-    (fill_meets 𝓛 𝓜.mem 𝓡.run (tables_of 𝓤 𝓛.H 𝓜 (tables 𝓤 𝓛.H 𝓜 𝓡 code.env))
-    (cited 𝓤 𝓛.H (RowOf 𝓛 𝓜.mem 𝓡.run) 𝓜 𝓡 code.env #rows·row-of row-of-def.routine code.calls-rows::row-of (row-of-thm.met 𝓤 𝓛 𝓜 𝓡)))

@@ -1,0 +1,20 @@
+-- `row_of` is the paper's row: the key directory's part and the three starts are those of the view. Assumes nothing.
+use Rattle.rows.proofs.Asked.{asked, made}
+use Rattle.rows.proofs.row_of.Goals as goal
+
+pub value-directory-requires : goal.value-directory-requires
+value-directory-requires c =
+    let a = c.args in
+    (asked a.file.now a.plan a.i c.requires.2).within
+
+pub row-requires : goal.row-requires
+row-requires c =
+    let a = c.args in
+    let p = c.requires in
+    let q = asked a.file.now a.plan a.i p.2 in
+    rw c.value-directory.ensures (p.0, p.1, q.asks)
+
+pub returns : goal.returns
+returns c =
+    let a = c.args in
+    made a.file.now a.plan a.i c.requires.2 _ c.value-directory.ensures _ c.row.ensures
