@@ -54,9 +54,9 @@ pub returns : goal.returns
 returns c =
     let a = c.told.ensures in
     let b = c.told-2.ensures in
-    elim c.if-big.branch
-    [ then-big+else-loop-i-test w ↦
-        pass-end _ w.loop-i.invariant w.if-big.true w.loop-i-test.false w.sixteen-is w.seventeen-is w.found-is a b c.finish.ensures
-    | else-big+else-loop-i-else-big-test w ↦
-        pass-end _ w.loop-i-else-big.invariant w.if-big.false w.loop-i-else-big-test.false w.sixteen-is w.seventeen-is w.found-is a b c.finish.ensures
+    elim c.if-big.branch [
+      | then-big+else-loop-i-test w ↦
+          pass-end _ w.loop-i.invariant w.if-big.true w.loop-i-test.false w.sixteen-is w.seventeen-is w.found-is a b c.finish.ensures
+      | else-big+else-loop-i-else-big-test w ↦
+          pass-end _ w.loop-i-else-big.invariant w.if-big.false w.loop-i-else-big-test.false w.sixteen-is w.seventeen-is w.found-is a b c.finish.ensures
     ]

@@ -5,8 +5,7 @@ use Rattle.mask.proofs.read_cut.Goals as goal
 
 pub returns : goal.returns
 unfolding cut_in
-returns c =
-    (
-      rw (c.number_if.ensures.0, c.number_if-2.ensures.0, c.number_if-3.ensures.0),
-      record { rows = c.number_if.ensures.1; tilewidth = c.number_if-2.ensures.1; tilelength = c.number_if-3.ensures.1 },
-    )
+returns c = (
+  rw (c.number_if.ensures.0, c.number_if-2.ensures.0, c.number_if-3.ensures.0),
+  record { rows = c.number_if.ensures.1; tilewidth = c.number_if-2.ensures.1; tilelength = c.number_if-3.ensures.1 },
+)

@@ -10,24 +10,23 @@ number_if-requires-4 c =
 
 pub returns : goal.returns
 unfolding numbers_in
-returns c =
-    (
-      rw (
-        c.number_at.ensures.0,
-        c.number_at-2.ensures.0,
-        c.short_at.ensures.0,
-        c.short_at-2.ensures.0,
-        c.short_at-3.ensures.0,
-        c.number_if.ensures.0,
-        c.number_if-2.ensures.0,
-        c.number_if-3.ensures.0,
-        c.number_if-4.ensures.0,
-      ),
-      record {
-        width = c.number_at.ensures.1;
-        length = c.number_at-2.ensures.1;
-        rows = c.number_if.ensures.1;
-        tilewidth = c.number_if-3.ensures.1;
-        tilelength = c.number_if-4.ensures.1;
-      },
-    )
+returns c = (
+  rw (
+    c.number_at.ensures.0,
+    c.number_at-2.ensures.0,
+    c.short_at.ensures.0,
+    c.short_at-2.ensures.0,
+    c.short_at-3.ensures.0,
+    c.number_if.ensures.0,
+    c.number_if-2.ensures.0,
+    c.number_if-3.ensures.0,
+    c.number_if-4.ensures.0,
+  ),
+  record {
+    width = c.number_at.ensures.1;
+    length = c.number_at-2.ensures.1;
+    rows = c.number_if.ensures.1;
+    tilewidth = c.number_if-3.ensures.1;
+    tilelength = c.number_if-4.ensures.1;
+  },
+)
