@@ -9,4 +9,8 @@ pub returns : goal.returns
 returns c =
     let a = c.args in
     let s = c.cite-c.ensures.0 in
-    (c.value.ensures ∙ cut a.file.now a.key _ s, (ap (λ (x : Cited). x.verdict.number) s, ap (λ (x : Cited). x.verdict.place) s))
+    record {
+      part = c.value.ensures ∙ cut a.file.now a.key _ s;
+      verdict = ap (λ (x : Cited). x.verdict.number) s;
+      place = ap (λ (x : Cited). x.verdict.place) s;
+    }

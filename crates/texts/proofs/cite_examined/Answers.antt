@@ -7,16 +7,6 @@ use Rattle.texts.proofs.Entries.{lists}
 use Rattle.texts.proofs.Citing.{Found, no_kind, no_key, found-so}
 use Rattle.texts.proofs.cite_examined.Goals as goal
 
--- where the key is found
-here : (c : tie.Else2)
-    → Found c.before.before.before.before.before.before.before.before.args.file.now c.before.before.before.before.before.before.before.before.args.key
-    c.before.before.before.before.before.before.before.before.args.e.characters.start c.before.before.find-key.result
-here c =
-    let a = c.before.before.before.before.before.before.before.before.args in
-    let p = c.before.before.before.before.before.before.before.before.requires in
-    let x = rw c.before.before.before.before.value.ensures at c.before.before.find-key.ensures in
-    found-so a.file.now a.e a.key p _ x _ c.before.before.before.before.before.before.kind.ensures c.before.before.before.before.before.if1.false c.if2.false
-
 pub returns-then-kind-ne-ASCII : goal.returns-then-kind-ne-ASCII
 returns-then-kind-ne-ASCII c =
     let a = c.args in
@@ -47,15 +37,18 @@ returns-then-found-number c =
 
 pub overflow_add-result : goal.overflow_add-result
 overflow_add-result c =
-    let q = here c in
+    let x = rw c.value-directory.ensures at c.find_key-found.ensures in
+    let q = found-so c.args.file.now c.args.e c.args.key c.requires _ x _ c.kind.ensures c.if-kind-ne-ASCII.false c.if-found-number.false in
     omega (arith, q.within, q.low)
 
 pub overflow_sub-result : goal.overflow_sub-result
 overflow_sub-result c =
-    let q = here c in
+    let x = rw c.value-directory.ensures at c.find_key-found.ensures in
+    let q = found-so c.args.file.now c.args.e c.args.key c.requires _ x _ c.kind.ensures c.if-kind-ne-ASCII.false c.if-found-number.false in
     omega (arith, q.some)
 
 pub returns : goal.returns
 returns c =
-    let q = here c in
+    let x = rw c.value-directory.ensures at c.find_key-found.ensures in
+    let q = found-so c.args.file.now c.args.e c.args.key c.requires _ x _ c.kind.ensures c.if-kind-ne-ASCII.false c.if-found-number.false in
     (q.is, omega (arith, q.within, q.some))

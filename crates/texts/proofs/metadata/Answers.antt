@@ -18,15 +18,17 @@ value-requires-else-t-eq0 c =
 pub returns-then-t-eq0 : goal.returns-then-t-eq0
 returns-then-t-eq0 c =
     let a = c.args in
-    let s = c.text-t.ensures.0 in (
-      c.value.ensures ∙ of-file a.file.now a.outside.now a.number _ s c.if-t-eq0.true,
-      (ap (λ (x : Text). x.verdict.number) s, ap (λ (x : Text). x.verdict.place) s),
-    )
+    let s = c.text-t.ensures.0 in record {
+      part = c.value.ensures ∙ of-file a.file.now a.outside.now a.number _ s c.if-t-eq0.true;
+      verdict = ap (λ (x : Text). x.verdict.number) s;
+      place = ap (λ (x : Text). x.verdict.place) s;
+    }
 
 pub returns-else-t-eq0 : goal.returns-else-t-eq0
 returns-else-t-eq0 c =
     let a = c.args in
-    let s = c.text-t.ensures.0 in (
-      c.value-else-t-eq0.ensures ∙ of-outside a.file.now a.outside.now a.number _ s c.if-t-eq0.false,
-      (ap (λ (x : Text). x.verdict.number) s, ap (λ (x : Text). x.verdict.place) s),
-    )
+    let s = c.text-t.ensures.0 in record {
+      part = c.value-else-t-eq0.ensures ∙ of-outside a.file.now a.outside.now a.number _ s c.if-t-eq0.false;
+      verdict = ap (λ (x : Text). x.verdict.number) s;
+      place = ap (λ (x : Text). x.verdict.place) s;
+    }
