@@ -6,7 +6,7 @@ use Rattle.block.proofs.key_block.Goals as goal
 pub returns-then-v-ne0 : goal.returns-then-v-ne0
 returns-then-v-ne0 c =
     let a = c.args in
-    let n = c.if-v-ne0.true in (
-      refused-of a.file.now _ c.examine-e.ensures n _ _ c.refused.ensures,
-      refused-left a.file.now _ c.examine-e.ensures n a.out.now,
-    )
+    let n = c.if-v-ne0.true in record {
+      answer = refused-of a.file.now _ c.examine-e.ensures n _ _ c.refused.ensures;
+      bytes = refused-left a.file.now _ c.examine-e.ensures n a.out.now;
+    }

@@ -34,7 +34,6 @@ overflow_add-d c =
     omega (
       arith,
       doubles-end _ _ _ _ _ _ c.requires.sound c.args.out.now c.requires.fits c.args.d c.args.x c.requires.directory c.requires.doubles,
-      ¿c.well-formed.1.1.1.1.1.1.1.0,
     )
 
 pub put_values-requires-3 : goal.put_values-requires-3

@@ -9,10 +9,10 @@ use Rattle.block.proofs.put_value.Goals as goal
 
 pub returns-then-e-location : goal.returns-then-e-location
 returns-then-e-location c =
-    let a = c.args in (
-      laid-elsewhere a.source.now a.big a.width a.location a.e c.if-e-location.true a.out.now a.at,
-      next-elsewhere a.source.now a.big a.width a.location a.e c.if-e-location.true a.at,
-    )
+    let a = c.args in record {
+      value = laid-elsewhere a.source.now a.big a.width a.location a.e c.if-e-location.true a.out.now a.at;
+      next = next-elsewhere a.source.now a.big a.width a.location a.e c.if-e-location.true a.at;
+    }
 
 pub overflow_mul-width : goal.overflow_mul-width
 overflow_mul-width c = omega (arith, c.requires.1 c.if-e-location.false)
@@ -46,10 +46,12 @@ overflow_add-result c =
 
 pub returns : goal.returns
 returns c =
-    let a = c.args in (
-      c.put_elements.ensures
+    let a = c.args in record {
+      value =
+          c.put_elements.ensures
           ∙ ap (splice a.out.now a.at)
-          (value-here a.source.now a.big a.width a.location a.e c.if-e-location.false),
-      ap (λ (k : ℕ). a.at + a.width * k)
-          (count-here a.source.now a.big a.width a.location a.e c.if-e-location.false),
-    )
+          (value-here a.source.now a.big a.width a.location a.e c.if-e-location.false);
+      next =
+          ap (λ (k : ℕ). a.at + a.width * k)
+          (count-here a.source.now a.big a.width a.location a.e c.if-e-location.false);
+    }

@@ -39,7 +39,7 @@ loop-i-preserved c =
       omega arith,
       values-turn a.directory.now a.source.now a.big a.width a.location a.count a.out.now a.at _ l.out l.o l.i
           l.invariant.1 c.loop-i-test.true _ c.entry_at-e.ensures.0 _ _
-          c.put_value-o.ensures.0 c.put_value-o.ensures.1,
+          c.put_value-o.ensures.value c.put_value-o.ensures.next,
     )
 
 pub shape_of-out : goal.shape_of-out

@@ -24,11 +24,13 @@ write_runs-requires c =
     sound c.args.file.now c.args.e c.requires.0 c.requires.1 _ _ _ c.value-directory.ensures c.value-doubles.ensures c.value-characters.ensures
 
 pub returns : goal.returns
-returns c = (
-  c.write_runs.ensures.0
+returns c = record {
+  answer =
+      c.write_runs.ensures.answer
       ∙ block-of c.args.file.now c.args.e c.requires.0 c.requires.1 _ _ _ c.value-directory.ensures c.value-doubles.ensures
-      c.value-characters.ensures _,
-  c.write_runs.ensures.1
+      c.value-characters.ensures _;
+  bytes =
+      c.write_runs.ensures.bytes
       ∙ block-left c.args.file.now c.args.e c.requires.0 c.requires.1 _ _ _ c.value-directory.ensures c.value-doubles.ensures
-      c.value-characters.ensures c.args.out.now,
-)
+      c.value-characters.ensures c.args.out.now;
+}

@@ -14,18 +14,22 @@ measure-s-requires c =
 pub returns-in-Broken : goal.returns-in-Broken
 returns-in-Broken c =
     let a = c.args in
-    far-answer a.big a.directory.now a.doubles.now a.characters.now a.minor a.count
-    c.requires c.measure-s.result
-    c.measure-s.ensures.0 a.out.now _ c.in-Broken.is _ c.refused.ensures
+    let r =
+        far-answer a.big a.directory.now a.doubles.now a.characters.now a.minor a.count
+        c.requires c.measure-s.result
+        c.measure-s.ensures.0 a.out.now _ c.in-Broken.is _ c.refused.ensures in
+    record { answer = r.0; bytes = r.1 }
 
 pub returns-then-out-need : goal.returns-then-out-need
 returns-then-out-need c =
     let a = c.args in
-    short-answer a.big a.directory.now a.doubles.now a.characters.now a.minor a.count
-    c.requires
-    c.measure-s.result
-    c.measure-s.ensures.0 c.in_default.is
-    a.out.now c.if-out-need.true _ c.refused-then-out-need.ensures
+    let r =
+        short-answer a.big a.directory.now a.doubles.now a.characters.now a.minor a.count
+        c.requires
+        c.measure-s.result
+        c.measure-s.ensures.0 c.in_default.is
+        a.out.now c.if-out-need.true _ c.refused-then-out-need.ensures in
+    record { answer = r.0; bytes = r.1 }
 
 pub put_block-requires : goal.put_block-requires
 put_block-requires c =
@@ -39,9 +43,11 @@ put_block-requires c =
 pub returns : goal.returns
 returns c =
     let a = c.args in
-    block-answer a.big a.directory.now a.doubles.now a.characters.now a.minor a.count
-    c.requires
-    c.measure-s.result
-    c.measure-s.ensures.0
-    c.in_default.is a.out.now _
-    c.if-out-need.false c.put_block.ensures
+    let r =
+        block-answer a.big a.directory.now a.doubles.now a.characters.now a.minor a.count
+        c.requires
+        c.measure-s.result
+        c.measure-s.ensures.0
+        c.in_default.is a.out.now _
+        c.if-out-need.false c.put_block.ensures in
+    record { answer = r.0; bytes = r.1 }
