@@ -2,6 +2,3 @@
 pub mod Asked
 pub mod Counting
 pub mod Filled
-pub mod Then
-pub mod ArrayLent
-pub mod ArrayShared
