@@ -4,7 +4,7 @@ use Prim.Native.Nat.{ℕ}
 use mathlib.Core.Path.{◌≡◌, refl}
 use mathlib.Core.Bool.{Bool, true, false}
 use mathlib.Core.List.{List, [], ◌∷◌, ◌++◌, map}
-use lib.ListN.{length, replicate, take}
+use lib.ListN.{replicate, take}
 use lib.Seq.{sets}
 use Rattle.paper.specs.Tests.{keep}
 use Rattle.paper.specs.Keys.{Runs, keys, rule15, rule16, rule17, rule18, rule19}

@@ -1,5 +1,4 @@
 -- `key_block` answers a refused file with its verdict, and writes nothing for it. Assumes nothing.
-use borrow.Author.Rules.{rules}
 use Rattle.block.proofs.Accepted.{refused-of, refused-left}
 use Rattle.block.proofs.key_block.Goals as goal
 

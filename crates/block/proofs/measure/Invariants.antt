@@ -1,8 +1,7 @@
 -- `measure` is rule 24 and the three sums: what is found from entry i on is what is found in all. Assumes nothing.
 use Prim.Native.Nat.{◌+◌, ◌-◌, ◌*◌, ◌≤◌}
 use mathlib.Core.Path.{◌≡◌}
-use native.Mathlib.Omega.{arith}
-use Rattle.block.proofs.Measuring.{found_from, all_found, found-begin, found-far, found_turn, found-end}
+use Rattle.block.proofs.Measuring.{found_from, all_found}
 use Rattle.block.proofs.measure.Given as goal
 
 abbrev pub invariant-loop-i : goal.invariant-loop-i

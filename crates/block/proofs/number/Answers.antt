@@ -1,6 +1,5 @@
 -- `number` reads one byte, a SHORT or a DOUBLE. Assumes nothing.
 use native.Mathlib.Omega.{arith}
-use borrow.Author.Rules.{rules}
 use Rattle.block.proofs.Turns.{one_byte, byte-is}
 use Rattle.block.proofs.number.Goals as goal
 

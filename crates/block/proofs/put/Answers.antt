@@ -1,9 +1,7 @@
 -- `put` lays the bytes of a number: the loop knows what is left of them. Assumes nothing.
-use Prim.Native.Nat.{◌+◌, ◌-◌, ◌≤◌}
 use native.Mathlib.Omega.{arith}
 use Rattle.paper.specs.Bytes.{enc}
 use Rattle.block.proofs.Turns.{bytes-begin, bytes-turn, bytes-end}
-use Rattle.block.proofs.Writing.{Writing}
 use Rattle.block.proofs.put.Goals as goal
 
 pub loop-j-init : goal.loop-j-init

@@ -1,6 +1,5 @@
 -- `put_block` lays the five pieces of the block, each behind the one before. Assumes nothing.
 use native.Mathlib.Omega.{arith}
-use borrow.Author.Rules.{rules}
 use Rattle.block.proofs.Whole.{few, whole, header-room, doubles-end, entries-room, shorts-asked, doubles-asked, characters-asked, all_laid}
 use Rattle.block.proofs.put_block.Goals as goal
 

@@ -1,10 +1,8 @@
 -- `put_elements` lays the elements of a value: the loop knows those from i on. Assumes nothing.
-use Prim.Native.Nat.{◌+◌, ◌-◌, ◌*◌, ◌≤◌}
-use mathlib.Core.Path.{◌≡◌, refl}
+use mathlib.Core.Path.{refl}
 use native.Mathlib.Nat.{mul-zero}
 use native.Mathlib.Omega.{arith}
-use Rattle.block.proofs.Turns.{elements_from, elements_all, elements-begin, element-room, elements-turn, elements-end, row_in, row_next}
-use Rattle.block.proofs.Writing.{Writing}
+use Rattle.block.proofs.Turns.{elements-begin, element-room, elements-turn, elements-end, row_in, row_next}
 use Rattle.block.proofs.put_elements.Goals as goal
 
 pub loop-i-init : goal.loop-i-init

@@ -1,10 +1,7 @@
 -- `put_entries` lays the entries with their new indexes: the loop knows those from i on, and where its three cursors stand at most.
 -- Assumes nothing.
-use Prim.Native.Nat.{◌+◌, ◌-◌, ◌*◌, ◌≤◌}
 use native.Mathlib.Omega.{arith}
-use Rattle.block.specs.Splice.{entry_bytes}
-use Rattle.block.proofs.Turns.{entries_from, entries-begin, entry-room, entries-turn, entries-end}
-use Rattle.block.proofs.Writing.{Writing}
+use Rattle.block.proofs.Turns.{entries-begin, entry-room, entries-turn, entries-end}
 use Rattle.block.proofs.put_entries.Goals as goal
 
 pub loop-i-init : goal.loop-i-init

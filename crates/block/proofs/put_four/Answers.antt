@@ -1,5 +1,4 @@
 -- `put_four` lays four SHORTs, each behind the one before. Assumes nothing.
-use borrow.Author.Rules.{rules}
 use Rattle.block.proofs.Turns.{four-laid}
 use Rattle.block.proofs.put_four.Goals as goal
 

@@ -2,7 +2,6 @@
 use Prim.Native.Nat.{ℕ, ◌+◌, ◌*◌}
 use mathlib.Core.Path.{ap, ◌∙◌}
 use native.Mathlib.Omega.{arith}
-use borrow.Author.Rules.{rules}
 use Rattle.block.specs.Splice.{splice}
 use Rattle.block.proofs.Turns.{value-here, count-here, fits-here, laid-elsewhere, next-elsewhere}
 use Rattle.block.proofs.put_value.Goals as goal

@@ -1,9 +1,6 @@
 -- `put_values` lays the values at a location: the loop knows those of the entries from i on. Assumes nothing.
-use Prim.Native.Nat.{◌-◌, ◌≤◌}
 use native.Mathlib.Omega.{arith}
-use Rattle.block.specs.Splice.{value_bytes}
-use Rattle.block.proofs.Turns.{values_from, values-begin, value_room, values-turn, values-end}
-use Rattle.block.proofs.Writing.{Writing}
+use Rattle.block.proofs.Turns.{values-begin, value_room, values-turn, values-end}
 use Rattle.block.proofs.put_values.Goals as goal
 
 pub loop-i-init : goal.loop-i-init

@@ -1,6 +1,5 @@
 -- `read_block` is what the judgement of the keys says of three little-endian runs. Assumes nothing.
 use mathlib.Core.Path.{ap, ◌∙◌}
-use borrow.Author.Rules.{rules}
 use Rattle.paper.specs.declared.BlockRead.{BlockRead}
 use Rattle.keys.specs.declared.KeysJudged.{KeysJudged}
 use Rattle.keys.proofs.Judged.{read_back}

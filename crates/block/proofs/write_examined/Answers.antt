@@ -1,6 +1,5 @@
 -- `write_examined` works on the runs that an accepted file shows. Assumes nothing.
 use mathlib.Core.Path.{◌∙◌}
-use borrow.Author.Rules.{rules}
 use Rattle.block.proofs.Accepted.{ready, sound, block-of, block-left}
 use Rattle.block.proofs.write_examined.Goals as goal
 

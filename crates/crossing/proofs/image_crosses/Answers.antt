@@ -2,7 +2,6 @@
 use Rattle.crossing.proofs.Apart.{mask-listed, mask-ends-low, columns}
 use Prim.Native.Nat.{zero-le}
 use native.Mathlib.Omega.{arith}
-use borrow.Author.Rules.{rules}
 use Rattle.crossing.proofs.image_crosses.Goals as goal
 
 pub crosses-requires : goal.crosses-requires

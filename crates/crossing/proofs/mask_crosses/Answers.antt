@@ -1,7 +1,6 @@
 -- `mask_crosses` hands both lists over: what the further entries name, the image's columns, the mask's, and then the head and the two directories. Assumes nothing.
 use Rattle.crossing.proofs.Apart.{both-listed, both-ends-low, columns, later-long}
 use native.Mathlib.Omega.{arith}
-use borrow.Author.Rules.{rules}
 use Rattle.crossing.proofs.mask_crosses.Goals as goal
 
 pub crosses-requires : goal.crosses-requires

@@ -1,5 +1,4 @@
 -- `runs_of` takes the numbers of two slots as they stand in the columns. Assumes nothing.
-use borrow.Author.Rules.{rules}
 use Rattle.crossing.proofs.runs_of.Goals as goal
 
 pub returns : goal.returns

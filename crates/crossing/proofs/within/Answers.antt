@@ -2,7 +2,6 @@
 use Rattle.pieces.specs.Spans.{within_of}
 use mathlib.Core.Path.{◌∙◌, ap}
 use Rattle.crossing.proofs.Apart.{offsets-fit, byte-counts-fit, places_same}
-use borrow.Author.Rules.{rules}
 use Rattle.crossing.proofs.within.Goals as goal
 
 pub judge_within-requires : goal.judge_within-requires

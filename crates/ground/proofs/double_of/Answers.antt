@@ -1,5 +1,4 @@
 -- `double_of` meets its contract: the bits of a finite double are no NaN's. Assumes nothing.
-use borrow.Author.Rules.{rules}
 use Rattle.ground.proofs.Finite.{no_nan}
 use Rattle.ground.proofs.double_of.Goals as goal
 

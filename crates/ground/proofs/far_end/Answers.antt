@@ -1,5 +1,4 @@
 -- `far_end` meets its contract: the two tests decide which number is taken. Assumes nothing.
-use borrow.Author.Rules.{rules}
 use Rattle.paper.specs.Ground.{last}
 use Rattle.ground.proofs.far_end.Goals as goal
 use Rattle.ground.proofs.far_end.Goals.{then-point+else-k-ne0, else-point}

@@ -1,5 +1,4 @@
 -- `finite_corners` meets its contract: the four calls ensure each part. Assumes nothing.
-use borrow.Author.Rules.{rules}
 use Rattle.paper.specs.Ground.{finite_corners}
 use Rattle.ground.proofs.finite_corners.Goals as goal
 

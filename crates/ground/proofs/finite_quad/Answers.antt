@@ -1,5 +1,4 @@
 -- `finite_quad` meets its contract: the four calls ensure each part. Assumes nothing.
-use borrow.Author.Rules.{rules}
 use Rattle.ground.specs.Steps.{finite_quad}
 use Rattle.ground.proofs.finite_quad.Goals as goal
 

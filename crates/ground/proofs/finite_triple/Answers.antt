@@ -1,5 +1,4 @@
 -- `finite_triple` meets its contract: the three calls ensure each part. Assumes nothing.
-use borrow.Author.Rules.{rules}
 use Rattle.ground.specs.Steps.{finite_triple}
 use Rattle.ground.proofs.finite_triple.Goals as goal
 

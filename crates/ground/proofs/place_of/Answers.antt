@@ -1,5 +1,4 @@
 -- `place_of` meets its contract: each arm knows its case, at which the mapping computes. Assumes nothing.
-use borrow.Author.Rules.{rules}
 use Rattle.ground.proofs.place_of.Goals as goal
 
 pub returns-in-Scaled : goal.returns-in-Scaled

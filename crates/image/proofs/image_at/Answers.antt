@@ -1,6 +1,5 @@
 -- `image_at` opens the directory at the place that the head names. Assumes nothing.
 use mathlib.Core.Path.{sym, ◌∙◌}
-use borrow.Author.Rules.{rules}
 use Rattle.layout.proofs.Opening.{head-good}
 use Rattle.image.proofs.Imaging.{opened-bad}
 use Rattle.image.proofs.image_at.Goals as goal

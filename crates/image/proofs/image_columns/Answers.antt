@@ -1,6 +1,5 @@
 -- `image_columns` asks the layer of the tags, then that of the pieces. Assumes nothing.
 use mathlib.Core.Path.{refl, ◌∙◌}
-use borrow.Author.Rules.{rules}
 use Rattle.image.proofs.Imaging.{table-refuses, pieces-refuse, fits, image-good}
 use Rattle.image.proofs.image_columns.Goals as goal
 

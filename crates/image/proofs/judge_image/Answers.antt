@@ -1,6 +1,5 @@
 -- `judge_image` reads the head, then what it names. Assumes nothing.
 use mathlib.Core.Path.{sym, ◌∙◌}
-use borrow.Author.Rules.{rules}
 use Rattle.image.proofs.Imaging.{headed-bad}
 use Rattle.image.proofs.judge_image.Goals as goal
 

@@ -1,6 +1,5 @@
 -- `judge_pieces` hands the runs of the pieces and the columns' parts to the pass over the places. Assumes nothing.
 use native.Mathlib.Omega.{arith}
-use borrow.Author.Rules.{rules}
 use Rattle.tags.proofs.Slots.{in_image}
 use Rattle.tags.proofs.Answers.{later-holds}
 use Rattle.image.proofs.Placing.{slot-within, places-asked, pieces-seen}

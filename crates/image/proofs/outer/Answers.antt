@@ -1,6 +1,5 @@
 -- `outer` takes ten numbers of a column, and two others. Assumes nothing.
 use mathlib.Core.Path.{refl}
-use borrow.Author.Rules.{rules}
 use Rattle.image.specs.Stages.{outer_of}
 use Rattle.image.proofs.outer.Goals as goal
 

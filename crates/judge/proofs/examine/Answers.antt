@@ -1,6 +1,5 @@
 -- `examine` asks for what the file shows by its own rules, then for its mask. Assumes nothing.
 use Rattle.judge.proofs.Examining.{alone}
-use borrow.Author.Rules.{rules}
 use Rattle.judge.proofs.examine.Goals as goal
 
 pub returns-then-o-eq0 : goal.returns-then-o-eq0

@@ -1,6 +1,5 @@
 -- `examine_own` asks for the image, then for the survey of the values that the image names. Assumes nothing.
 use mathlib.Core.Path.{◌∙◌}
-use borrow.Author.Rules.{rules}
 use Rattle.judge.proofs.Examining.{directory-named, doubles-named, characters-named, scale-named, tiepoint-named, matrix-named}
 use Rattle.judge.proofs.Examining.{image-bad, runs-sized, survey-bad, both-good}
 use Rattle.judge.proofs.examine_own.Goals as goal

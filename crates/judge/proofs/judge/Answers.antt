@@ -3,7 +3,6 @@ use mathlib.Core.Path.{ap, ◌∙◌}
 use Rattle.judge.specs.declared.Examined.{Examined}
 use Rattle.judge.proofs.Examining.{alone}
 use Rattle.judge.proofs.Seen.{judged-is}
-use borrow.Author.Rules.{rules}
 use Rattle.judge.proofs.judge.Goals as goal
 
 pub returns-then-o-eq0 : goal.returns-then-o-eq0

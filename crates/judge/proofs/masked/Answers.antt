@@ -1,7 +1,6 @@
 -- `masked` asks for the mask of a file that keeps its own rules. Assumes nothing.
 use mathlib.Core.Path.{◌∙◌}
 use Rattle.judge.proofs.Examining.{before, mask-bad, mask-good}
-use borrow.Author.Rules.{rules}
 use Rattle.judge.proofs.masked.Goals as goal
 
 pub judge_mask-number-requires : goal.judge_mask-number-requires

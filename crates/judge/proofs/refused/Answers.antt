@@ -1,5 +1,4 @@
 -- `refused` has nothing beside the verdict. Assumes nothing.
-use borrow.Author.Rules.{rules}
 use Rattle.judge.proofs.refused.Goals as goal
 
 pub returns : goal.returns

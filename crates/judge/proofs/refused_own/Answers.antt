@@ -1,5 +1,4 @@
 -- `refused_own` answers a refused file. Assumes nothing.
-use borrow.Author.Rules.{rules}
 use Rattle.judge.proofs.refused_own.Goals as goal
 
 pub returns : goal.returns

@@ -1,7 +1,6 @@
 -- `answer` has K, the minor revision and the raster type with verdict 0 only.
 -- Assumes nothing.
 use borrow.Author.Tests.{eq-eqb, ne_eqb}
-use borrow.Author.Rules.{rules}
 use Rattle.keys.proofs.answer.Goals as goal
 
 pub returns-then-verdict-eq0 : goal.returns-then-verdict-eq0

@@ -1,7 +1,6 @@
 -- `finish` chains the outcomes of rules 16 to 19.
 -- Assumes nothing.
 use Rattle.keys.proofs.Answers.{chained}
-use borrow.Author.Rules.{rules}
 use Rattle.keys.proofs.finish.Goals as goal
 
 pub returns : goal.returns

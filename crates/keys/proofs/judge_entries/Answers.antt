@@ -1,8 +1,6 @@
 -- `judge_entries` is rules 16 to 19: a loop for each byte order, whose turns are the same laws of `Turn`. Assumes nothing.
-use mathlib.Core.Bool.{true, false}
 use native.Mathlib.Omega.{arith}
-use borrow.Author.Rules.{rules}
-use Rattle.keys.proofs.Turn.{Passing, pass-start, turn_in, turn-out, turn-other, pass-end}
+use Rattle.keys.proofs.Turn.{pass-start, turn_in, turn-out, turn-other, pass-end}
 use Rattle.keys.proofs.judge_entries.Goals as goal
 use Rattle.keys.proofs.judge_entries.Goals.{then-big+else-loop-i-test, else-big+else-loop-i-else-big-test}
 

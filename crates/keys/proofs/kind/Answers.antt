@@ -3,7 +3,6 @@
 use Rattle.paper.specs.Keys.{known_keys}
 use Rattle.keys.specs.Table.{key_numbers, key_kinds}
 use mathlib.Core.Path.{refl}
-use borrow.Author.Rules.{rules}
 use Rattle.keys.proofs.kind.Goals as goal
 
 pub kind_in-requires : goal.kind_in-requires

@@ -1,5 +1,4 @@
 -- `bad_value` is rule 7 at one entry, tested by the length of its value. Assumes nothing.
-use borrow.Author.Rules.{rules}
 use Rattle.layout.proofs.Sizes.{bad-far, bad-near, bad-none}
 use Rattle.layout.proofs.bad_value.Goals as goal
 

@@ -1,7 +1,6 @@
 -- `conclude` puts the outcomes of rules 6 and 7 in a row. Assumes nothing.
 use Rattle.paper.specs.Layout.{next_offset}
 use Rattle.layout.specs.Opening.{concluded_of}
-use borrow.Author.Rules.{rules}
 use Rattle.layout.proofs.conclude.Goals as goal
 
 pub returns : goal.returns

@@ -1,7 +1,6 @@
 -- `find` passes over the tags from the first to the last; its turns are laws of `Plain`. Assumes nothing.
 use Prim.Native.Nat.{◌-◌}
-use native.Mathlib.Omega.{arith}
-use Rattle.layout.proofs.Plain.{Sought, seek-start, seek_found, seek-more, seek-none}
+use Rattle.layout.proofs.Plain.{Sought}
 use Rattle.layout.proofs.find.Given as goal
 
 abbrev pub invariant-loop-i : goal.invariant-loop-i

@@ -1,5 +1,4 @@
 -- `is_listed` looks a tag up in its cell. Assumes nothing.
-use borrow.Author.Rules.{rules}
 use Rattle.layout.specs.Finding.{in_cell}
 use Rattle.layout.proofs.is_listed.Goals as goal
 

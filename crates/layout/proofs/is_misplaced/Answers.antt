@@ -1,6 +1,5 @@
 -- `is_misplaced` makes the three tests that rules 4 and 7 share, in their order. Assumes nothing.
 use borrow.Author.Tests.{lt-ltb, le-ltb, ne_eqb}
-use borrow.Author.Rules.{rules}
 use Rattle.layout.proofs.is_misplaced.Goals as goal
 
 pub returns-then-start-eq1 : goal.returns-then-start-eq1

@@ -1,6 +1,5 @@
 -- `judge_entries` passes over the directory for rule 6 and for rule 7. Assumes nothing.
 use Rattle.layout.proofs.Plain.{conclusion}
-use borrow.Author.Rules.{rules}
 use Rattle.layout.proofs.judge_entries.Goals as goal
 
 pub returns : goal.returns

@@ -1,9 +1,6 @@
 -- `judge_values` tests the values from the first to the last; its turns are laws of `Plain`. Assumes nothing.
 use Prim.Native.Nat.{◌-◌}
-use native.Mathlib.Omega.{arith}
-use borrow.Author.Rules.{rules}
-use Rattle.layout.proofs.Sizes.{len_of}
-use Rattle.layout.proofs.Plain.{Fitting, fit-start, fit-bad, fit-more, fit-end}
+use Rattle.layout.proofs.Plain.{Fitting}
 use Rattle.layout.proofs.judge_values.Given as goal
 
 abbrev pub invariant-loop-i : goal.invariant-loop-i

@@ -1,7 +1,5 @@
 -- `order_again` passes over the tags from the last to the first; its turns are laws of `Ordering`. Assumes nothing.
-use native.Mathlib.Omega.{arith}
-use borrow.Author.Rules.{rules}
-use Rattle.layout.proofs.Ordering.{Counting, count-start, count-text, count-other, second, count_none, count-some}
+use Rattle.layout.proofs.Ordering.{Counting}
 use Rattle.layout.proofs.order_again.Given as goal
 
 abbrev pub invariant-loop-i : goal.invariant-loop-i

@@ -1,6 +1,5 @@
 -- `read_count` is rule 5: it is broken by no entry, by too many, and by an end past that of the file. Assumes nothing.
 use Rattle.layout.proofs.Opening.{count_room, no-entry, many-entries, past_end, count-good}
-use borrow.Author.Rules.{rules}
 use Rattle.layout.proofs.read_count.Goals as goal
 
 pub short-c-requires : goal.short-c-requires

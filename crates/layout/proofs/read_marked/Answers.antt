@@ -1,6 +1,5 @@
 -- `read_marked` is rules 2 and 3 of a head that keeps rule 2. Assumes nothing.
 use Rattle.layout.proofs.Opening.{not-42, is-42}
-use borrow.Author.Rules.{rules}
 use Rattle.layout.proofs.read_marked.Goals as goal
 
 pub returns-then-short-ne42 : goal.returns-then-short-ne42

@@ -1,5 +1,4 @@
 -- `slot_of` is the slot that stands in the tag's cell. Assumes nothing.
-use borrow.Author.Rules.{rules}
 use Rattle.layout.proofs.slot_of.Goals as goal
 
 pub returns : goal.returns

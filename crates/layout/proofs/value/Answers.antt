@@ -1,6 +1,5 @@
 -- `value` is the part of the file that it names. Assumes nothing.
 use native.Mathlib.Nat.{add-sub_cancel_left}
-use borrow.Author.Rules.{rules}
 use Rattle.layout.proofs.value.Goals as goal
 
 pub returns : goal.returns

@@ -1,8 +1,6 @@
 -- `absent_line` is rule 9, line after line; its turns are laws of `Walk`. Assumes nothing.
 use Prim.Native.Nat.{◌-◌}
-use native.Mathlib.Omega.{arith}
-use borrow.Author.Rules.{rules}
-use Rattle.lines.proofs.Walk.{nine, said, at_fault, Passed, pass-start, pass-bad, pass-more, pass-end}
+use Rattle.lines.proofs.Walk.{nine, Passed}
 use Rattle.lines.proofs.absent_line.Given as goal
 
 abbrev pub invariant-loop-k : goal.invariant-loop-k

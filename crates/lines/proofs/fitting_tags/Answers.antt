@@ -1,7 +1,6 @@
 -- `fitting_tags` is rule 10 over the lines, which it cuts in two; its returns are laws of `Walk`. Assumes nothing.
 use mathlib.Core.Path.{sym}
 use native.Mathlib.Omega.{arith}
-use borrow.Author.Rules.{rules}
 use lib.ListN.{length-take}
 use lib.Seq.{length-take-le}
 use Rattle.lines.proofs.Walk.{ten, said, cut-broken, cut-kept, rest}

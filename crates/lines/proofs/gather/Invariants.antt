@@ -1,9 +1,6 @@
 -- `gather` fills the columns slot by slot; its turns are laws of `Gathered`. Assumes nothing.
 use Prim.Native.Nat.{◌-◌}
-use mathlib.Core.Path.{sym, ◌∙◌}
-use native.Mathlib.Omega.{arith}
-use borrow.Author.Rules.{rules}
-use Rattle.lines.proofs.Gathered.{Gathering, gather-start, gather-more, gather-all}
+use Rattle.lines.proofs.Gathered.{Gathering}
 use Rattle.lines.proofs.gather.Given as goal
 
 abbrev pub invariant-loop-k : goal.invariant-loop-k

@@ -1,10 +1,8 @@
 -- `has_misfit` looks at the entries one after the other; its turns are laws of `Later`. Assumes nothing.
 use Prim.Native.Nat.{◌-◌}
 use mathlib.Core.List.{[]}
-use native.Mathlib.Omega.{arith}
 use lib.ListN.{get_or}
-use borrow.Author.Rules.{rules}
-use Rattle.lines.proofs.Later.{Fine, fine-start, fine-bad, fine_more, fine_end}
+use Rattle.lines.proofs.Later.{Fine}
 use Rattle.lines.proofs.has_misfit.Given as goal
 
 abbrev pub invariant-loop-j : goal.invariant-loop-j

@@ -1,5 +1,4 @@
 -- `is_misfit` tests a tag that may be absent. Assumes nothing.
-use borrow.Author.Rules.{rules}
 use borrow.Author.Tests.{ne_eqb, eq-eqb}
 use Rattle.lines.specs.Rows.{misfit}
 use Rattle.lines.proofs.is_misfit.Goals as goal

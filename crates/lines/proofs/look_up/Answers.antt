@@ -2,7 +2,6 @@
 use native.Mathlib.Omega.{arith}
 use borrow.Author.Tests.{ne_eqb}
 use Rattle.layout.specs.Finding.{found_of}
-use borrow.Author.Rules.{rules}
 use Rattle.lines.proofs.look_up.Goals as goal
 
 pub returns-then-p-eq0 : goal.returns-then-p-eq0

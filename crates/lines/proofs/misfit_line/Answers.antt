@@ -1,8 +1,5 @@
 -- `misfit_line` is rule 10, line after line; its turns are laws of `Walk`. Assumes nothing.
-use Prim.Native.Nat.{◌-◌}
-use native.Mathlib.Omega.{arith}
-use borrow.Author.Rules.{rules}
-use Rattle.lines.proofs.Walk.{ten, said, at_fault, Passed, pass-start, pass-bad, pass-more, pass-end}
+use Rattle.lines.proofs.Walk.{said, at_fault, pass-start, pass-bad, pass-more, pass-end}
 use Rattle.lines.proofs.misfit_line.Goals as goal
 
 pub loop-k-init : goal.loop-k-init

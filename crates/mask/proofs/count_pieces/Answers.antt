@@ -1,7 +1,6 @@
 -- `count_pieces` is the number of strips, or the tiles across times the tiles down; no product of the two is too large. Assumes nothing.
 use Rattle.tags.proofs.Values.{product-fits}
 use Rattle.mask.specs.Values.{pieces_by}
-use borrow.Author.Rules.{rules}
 use Rattle.mask.proofs.count_pieces.Goals as goal
 
 pub overflow_mul-result : goal.overflow_mul-result

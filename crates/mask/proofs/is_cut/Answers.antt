@@ -1,6 +1,5 @@
 -- `is_cut` tests each number by which a picture is cut. Assumes nothing.
 use Rattle.mask.specs.Values.{cut_allowed}
-use borrow.Author.Rules.{rules}
 use Rattle.mask.proofs.is_cut.Goals as goal
 
 pub returns : goal.returns

@@ -1,6 +1,5 @@
 -- `is_plain` fetches five numbers and tests each. Assumes nothing.
 use Rattle.mask.specs.Values.{plain_in}
-use borrow.Author.Rules.{rules}
 use Rattle.mask.proofs.is_plain.Goals as goal
 
 pub returns : goal.returns

@@ -1,6 +1,5 @@
 -- `is_single` goes by what the values of 258 say. Assumes nothing.
 use Rattle.mask.specs.Values.{single_in, all_one}
-use borrow.Author.Rules.{rules}
 use Rattle.mask.proofs.is_single.Goals as goal
 
 pub returns : goal.returns

@@ -1,6 +1,5 @@
 -- `is_sized` fetches width and length and compares them. Assumes nothing.
 use Rattle.mask.specs.Values.{sized_in}
-use borrow.Author.Rules.{rules}
 use Rattle.mask.proofs.is_sized.Goals as goal
 
 pub returns : goal.returns

@@ -5,7 +5,6 @@ use Rattle.paper.specs.Tags.{mask_table}
 use Rattle.lines.specs.Rows.{needed_by}
 use Rattle.lines.specs.Lined.{says, all_say}
 use Rattle.mask.proofs.Answers.{lined, refused-mixed, refused-nine, refused-ten, fitting}
-use borrow.Author.Rules.{rules}
 use Rattle.mask.proofs.judge_tags.Goals as goal
 
 pub returns-then-is_mixed : goal.returns-then-is_mixed

@@ -1,6 +1,5 @@
 -- `judge_values` is rules 11 and 12 of a mask where 27, 9 and 10 are kept: one law for each answer (`Answers`). Assumes nothing.
 use Rattle.mask.proofs.Answers.{sized, single, plain, cut-readable, refused-eleven, countable, refused-twelve, accepted}
-use borrow.Author.Rules.{rules}
 use Rattle.mask.proofs.judge_values.Goals as goal
 
 pub is_sized-sized-requires : goal.is_sized-sized-requires

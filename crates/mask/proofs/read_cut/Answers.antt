@@ -1,6 +1,5 @@
 -- `read_cut` fetches the rows of a strip, or the sides of a tile. Assumes nothing.
 use Rattle.mask.specs.Values.{cut_in}
-use borrow.Author.Rules.{rules}
 use Rattle.mask.proofs.read_cut.Goals as goal
 
 pub returns : goal.returns

@@ -2,7 +2,6 @@
 use native.Mathlib.Omega.{arith}
 use mathlib.Core.Bool.{true}
 use Rattle.order.proofs.Sums.{spelled}
-use borrow.Author.Rules.{rules}
 use Rattle.order.proofs.big2.Goals as goal
 
 pub returns : goal.returns

@@ -2,7 +2,6 @@
 use mathlib.Core.Bool.{true}
 use native.Mathlib.Omega.{arith}
 use Rattle.order.proofs.Sums.{spelled}
-use borrow.Author.Rules.{rules}
 use Rattle.order.proofs.big8.Goals as goal
 
 pub returns : goal.returns

@@ -2,7 +2,6 @@
 use native.Mathlib.Omega.{arith}
 use mathlib.Core.Bool.{false}
 use Rattle.order.proofs.Sums.{spelled}
-use borrow.Author.Rules.{rules}
 use Rattle.order.proofs.little4.Goals as goal
 
 pub returns : goal.returns

@@ -1,5 +1,4 @@
 -- `long`: the order decides. Assumes nothing.
-use borrow.Author.Rules.{rules}
 use Rattle.order.proofs.long.Goals as goal
 
 pub returns-then-big : goal.returns-then-big

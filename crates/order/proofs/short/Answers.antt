@@ -1,5 +1,4 @@
 -- `short`: the order decides. Assumes nothing.
-use borrow.Author.Rules.{rules}
 use Rattle.order.proofs.short.Goals as goal
 
 pub returns-then-big : goal.returns-then-big

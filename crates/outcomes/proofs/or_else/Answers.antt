@@ -1,5 +1,4 @@
 -- `or_else` is the verdict of a broken rule, and else that of the later ones. Assumes nothing.
-use borrow.Author.Rules.{rules}
 use Rattle.outcomes.proofs.or_else.Goals as goal
 
 pub returns-in-Broken : goal.returns-in-Broken

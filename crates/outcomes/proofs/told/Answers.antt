@@ -1,5 +1,4 @@
 -- `told` is what a place, or none, tells of its rule. Assumes nothing.
-use native.Mathlib.Omega.{arith}
 use borrow.Author.Tests.{eq-eqb, ne_eqb}
 use Rattle.outcomes.specs.Told.{told_by}
 use Rattle.outcomes.proofs.told.Goals as goal

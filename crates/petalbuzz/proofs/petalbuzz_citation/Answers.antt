@@ -1,6 +1,5 @@
 -- `petalbuzz_citation` answers the fields of `cite`, and the part they name is the citation. Assumes nothing.
 use mathlib.Core.Path.{ap}
-use borrow.Author.Rules.{rules}
 use Rattle.paper.specs.declared.Cited.{Cited}
 use Rattle.texts.proofs.Citing.{cut}
 use Rattle.petalbuzz.proofs.petalbuzz_citation.Goals as goal

@@ -1,6 +1,5 @@
 -- `petalbuzz_ground` answers what `judge` does, as numbers. Assumes nothing.
 use mathlib.Core.Path.{ap, ◌∙◌}
-use borrow.Author.Rules.{rules}
 use Rattle.paper.proofs.Called.{judged-verdict}
 use Rattle.paper.specs.declared.Judged.{Judged}
 use Rattle.paper.specs.declared.Verdict.{Verdict}

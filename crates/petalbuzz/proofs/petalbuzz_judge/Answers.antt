@@ -1,6 +1,5 @@
 -- `petalbuzz_judge` answers the verdict of `judge`. Assumes nothing.
 use mathlib.Core.Path.{ap, ◌∙◌}
-use borrow.Author.Rules.{rules}
 use Rattle.paper.proofs.Called.{judged-verdict}
 use Rattle.paper.specs.declared.Judged.{Judged}
 use Rattle.paper.specs.declared.Verdict.{Verdict}

@@ -1,6 +1,5 @@
 -- `petalbuzz_key_block` hands on what `key_block` answers. Assumes nothing.
 use mathlib.Core.Path.{ap}
-use borrow.Author.Rules.{rules}
 use Rattle.paper.specs.declared.Block.{Block}
 use Rattle.petalbuzz.specs.Numbers.{lengths_of}
 use Rattle.petalbuzz.proofs.petalbuzz_key_block.Goals as goal

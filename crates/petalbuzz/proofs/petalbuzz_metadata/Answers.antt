@@ -1,6 +1,5 @@
 -- `petalbuzz_metadata` answers the fields of `text`, and the part they name is the metadata text. Assumes nothing.
 use mathlib.Core.Path.{ap}
-use borrow.Author.Rules.{rules}
 use Rattle.paper.specs.declared.Text.{Text}
 use Rattle.texts.proofs.Telling.{cut}
 use Rattle.petalbuzz.proofs.petalbuzz_metadata.Goals as goal

@@ -1,6 +1,5 @@
 -- `petalbuzz_read_block` hands on what `read_block` answers. Assumes nothing.
 use mathlib.Core.Path.{ap}
-use borrow.Author.Rules.{rules}
 use Rattle.paper.specs.declared.BlockRead.{BlockRead}
 use Rattle.petalbuzz.proofs.petalbuzz_read_block.Goals as goal
 

@@ -1,5 +1,4 @@
 -- `six_of` gives the six numbers of either form. Assumes nothing.
-use borrow.Author.Rules.{rules}
 use Rattle.petalbuzz.proofs.six_of.Goals as goal
 
 pub returns-in-Scaled : goal.returns-in-Scaled

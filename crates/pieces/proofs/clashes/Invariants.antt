@@ -1,10 +1,8 @@
 -- `clashes` asks the span of the places first, and then each place: those before place i share no byte with the list. Assumes nothing.
-use Rattle.std.proofs.Common.{◌-◌, ◌++◌, arith, rules}
+use Rattle.std.proofs.Common.{◌-◌, ◌++◌}
 use Rattle.order.specs.Width.{width}
 use Rattle.pieces.specs.Gaps.{parts_of, named_parts}
-use Rattle.pieces.proofs.Passing.{next_fits}
-use Rattle.pieces.proofs.Alone.{span-free}
-use Rattle.pieces.proofs.Each.{Apart, apart-start, apart-end, apart-clash, apart-turn}
+use Rattle.pieces.proofs.Each.{Apart}
 use Rattle.pieces.proofs.clashes.Given as goal
 
 abbrev pub invariant-loop-i : goal.invariant-loop-i

@@ -1,11 +1,10 @@
 -- `clashes_all` asks the span of the places first. Then it fetches a place, looks for the gap around it, and goes on with the first place that leaves the
 -- gap: those before share no byte with the list. Assumes nothing.
-use Rattle.std.proofs.Common.{◌-◌, false, arith, rules}
+use Rattle.std.proofs.Common.{◌-◌, false}
 use Rattle.order.specs.Width.{width}
 use Rattle.pieces.specs.Gaps.{list_of}
 use Rattle.pieces.specs.Spans.{no_span}
-use Rattle.pieces.proofs.Passing.{first_fits, next_small, Standing}
-use Rattle.pieces.proofs.Alone.{clash-none, span-free, apart-first, apart_low, apart-clash, apart-room, apart_next, apart-end}
+use Rattle.pieces.proofs.Passing.{Standing}
 use Rattle.pieces.proofs.clashes_all.Given as goal
 
 abbrev pub invariant-loop-at : goal.invariant-loop-at

@@ -1,5 +1,4 @@
 -- `gap_among` narrows the gap of the last columns by the others, and then by what the entries name. Assumes nothing.
-use Rattle.std.proofs.Common.{rules}
 use Rattle.pieces.proofs.Answers.{gap-all}
 use Rattle.pieces.proofs.gap_among.Goals as goal
 

@@ -1,10 +1,9 @@
 -- `judge_places` fetches a place, looks for the gap around it, and goes on with the first place that leaves the gap: the places before it keep both
 -- rules. Assumes nothing.
-use Rattle.std.proofs.Common.{◌-◌, ◌++◌, arith, rules}
+use Rattle.std.proofs.Common.{◌-◌, ◌++◌}
 use Rattle.order.specs.Width.{width}
 use Rattle.pieces.specs.Gaps.{parts_of, named_parts}
-use Rattle.pieces.proofs.Passing.{first_fits, next_small, places-none, Standing, standing-first, standing-end, standing-bad, starts_low, standing-clash}
-use Rattle.pieces.proofs.Passing.{gap-room, standing-last, standing-next}
+use Rattle.pieces.proofs.Passing.{Standing}
 use Rattle.pieces.proofs.judge_places.Given as goal
 
 abbrev pub invariant-loop-at : goal.invariant-loop-at

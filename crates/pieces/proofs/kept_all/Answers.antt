@@ -1,5 +1,4 @@
 -- `kept_all`: the test of whether a span is asked for decides. Assumes nothing.
-use Rattle.std.proofs.Common.{rules}
 use Rattle.pieces.proofs.kept_all.Goals as goal
 
 pub returns-then-spanned : goal.returns-then-spanned

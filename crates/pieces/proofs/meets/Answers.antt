@@ -1,8 +1,6 @@
 -- `meets` takes the parts from the last to the first: its answer is the one of those from j on. Assumes nothing.
-use Rattle.std.proofs.Common.{◌≡◌, ◌≤◌, not, [], arith, rules}
-use Rattle.paper.specs.Tests.{all}
-use Rattle.pieces.specs.Gaps.{part_at, clear}
-use Rattle.pieces.proofs.Answers.{parts_from, meet-start, meet-turn, meet-end}
+use Rattle.std.proofs.Common.{arith, rules}
+use Rattle.pieces.proofs.Answers.{meet-start, meet-turn, meet-end}
 use Rattle.pieces.proofs.meets.Goals as goal
 
 pub loop-j-init : goal.loop-j-init

@@ -1,8 +1,8 @@
 -- `meets` takes the parts from the last to the first: its answer is the one of those from j on. Assumes nothing.
-use Rattle.std.proofs.Common.{◌≡◌, ◌≤◌, not, [], arith, rules}
+use Rattle.std.proofs.Common.{◌≡◌, ◌≤◌, not, []}
 use Rattle.paper.specs.Tests.{all}
 use Rattle.pieces.specs.Gaps.{part_at, clear}
-use Rattle.pieces.proofs.Answers.{parts_from, meet-start, meet-turn, meet-end}
+use Rattle.pieces.proofs.Answers.{parts_from}
 use Rattle.pieces.proofs.meets.Given as goal
 
 abbrev pub invariant-loop-j : goal.invariant-loop-j

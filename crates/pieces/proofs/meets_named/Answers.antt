@@ -1,8 +1,6 @@
 -- `meets_named` takes the entries from the last to the first: its answer is the one of those from i on. Assumes nothing.
-use Rattle.std.proofs.Common.{◌≡◌, ◌≤◌, not, [], arith, rules}
-use Rattle.paper.specs.Tests.{all}
-use Rattle.pieces.specs.Gaps.{named_at, clear}
-use Rattle.pieces.proofs.Answers.{parts_from, meet-start, named-turn, named_end, long-fits}
+use Rattle.std.proofs.Common.{arith, rules}
+use Rattle.pieces.proofs.Answers.{meet-start, named-turn, named_end, long-fits}
 use Rattle.pieces.proofs.meets_named.Goals as goal
 
 pub loop-i-init : goal.loop-i-init

@@ -1,8 +1,8 @@
 -- `meets_named` takes the entries from the last to the first: its answer is the one of those from i on. Assumes nothing.
-use Rattle.std.proofs.Common.{◌≡◌, ◌≤◌, not, [], arith, rules}
+use Rattle.std.proofs.Common.{◌≡◌, ◌≤◌, not, []}
 use Rattle.paper.specs.Tests.{all}
 use Rattle.pieces.specs.Gaps.{named_at, clear}
-use Rattle.pieces.proofs.Answers.{parts_from, meet-start, named-turn, named_end, long-fits}
+use Rattle.pieces.proofs.Answers.{parts_from}
 use Rattle.pieces.proofs.meets_named.Given as goal
 
 abbrev pub invariant-loop-i : goal.invariant-loop-i

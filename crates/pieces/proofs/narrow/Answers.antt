@@ -1,7 +1,6 @@
 -- `narrow` takes the entries from the last to the first: the gap is the given one with the parts that those from j on name. Assumes nothing.
-use Rattle.std.proofs.Common.{◌≤◌, arith, rules}
-use Rattle.pieces.specs.Gaps.{named_at}
-use Rattle.pieces.proofs.Answers.{Narrowed, narrow_start, narrow-turn, narrow-end, end_fits, long-fits}
+use Rattle.std.proofs.Common.{arith, rules}
+use Rattle.pieces.proofs.Answers.{narrow_start, narrow-turn, narrow-end, end_fits, long-fits}
 use Rattle.pieces.proofs.narrow.Goals as goal
 
 pub loop-j-init : goal.loop-j-init

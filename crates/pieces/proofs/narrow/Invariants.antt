@@ -1,7 +1,7 @@
 -- `narrow` takes the entries from the last to the first: the gap is the given one with the parts that those from j on name. Assumes nothing.
-use Rattle.std.proofs.Common.{◌≤◌, arith, rules}
+use Rattle.std.proofs.Common.{◌≤◌}
 use Rattle.pieces.specs.Gaps.{named_at}
-use Rattle.pieces.proofs.Answers.{Narrowed, narrow_start, narrow-turn, narrow-end, end_fits, long-fits}
+use Rattle.pieces.proofs.Answers.{Narrowed}
 use Rattle.pieces.proofs.narrow.Given as goal
 
 abbrev pub invariant-loop-j : goal.invariant-loop-j

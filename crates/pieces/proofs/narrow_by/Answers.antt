@@ -1,7 +1,6 @@
 -- `narrow_by` takes the parts from the last to the first: the gap is the given one with those from j on. Assumes nothing.
-use Rattle.std.proofs.Common.{◌≤◌, arith, rules}
-use Rattle.pieces.specs.Gaps.{part_at}
-use Rattle.pieces.proofs.Answers.{Narrowed, narrow_start, by_turn, by_end, end_fits}
+use Rattle.std.proofs.Common.{arith, rules}
+use Rattle.pieces.proofs.Answers.{narrow_start, by_turn, by_end, end_fits}
 use Rattle.pieces.proofs.narrow_by.Goals as goal
 
 pub loop-j-init : goal.loop-j-init

@@ -1,7 +1,7 @@
 -- `narrow_by` takes the parts from the last to the first: the gap is the given one with those from j on. Assumes nothing.
-use Rattle.std.proofs.Common.{◌≤◌, arith, rules}
+use Rattle.std.proofs.Common.{◌≤◌}
 use Rattle.pieces.specs.Gaps.{part_at}
-use Rattle.pieces.proofs.Answers.{Narrowed, narrow_start, by_turn, by_end, end_fits}
+use Rattle.pieces.proofs.Answers.{Narrowed}
 use Rattle.pieces.proofs.narrow_by.Given as goal
 
 abbrev pub invariant-loop-j : goal.invariant-loop-j

@@ -1,5 +1,4 @@
 -- `skip_on`: the test of whether a span is asked for decides. Assumes nothing.
-use Rattle.std.proofs.Common.{rules}
 use mathlib.Core.Bool.{false≢true}
 use Rattle.pieces.proofs.skip_on.Goals as goal
 

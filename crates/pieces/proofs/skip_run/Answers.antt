@@ -1,7 +1,6 @@
 -- `skip_run` passes by the places that lie in the gap. Assumes nothing.
-use Rattle.std.proofs.Common.{◌-◌, ◌≤◌, arith, rules}
-use Rattle.order.specs.Width.{width}
-use Rattle.pieces.proofs.Passing.{next_fits, Passed, passed_start, passed-turn, passed-stop, passed-end}
+use Rattle.std.proofs.Common.{arith, rules}
+use Rattle.pieces.proofs.Passing.{next_fits, passed_start, passed-turn, passed-stop, passed-end}
 use Rattle.pieces.proofs.skip_run.Goals as goal
 
 pub loop-i-init : goal.loop-i-init

@@ -1,7 +1,7 @@
 -- `skip_run` passes by the places that lie in the gap. Assumes nothing.
-use Rattle.std.proofs.Common.{◌-◌, ◌≤◌, arith, rules}
+use Rattle.std.proofs.Common.{◌-◌, ◌≤◌}
 use Rattle.order.specs.Width.{width}
-use Rattle.pieces.proofs.Passing.{next_fits, Passed, passed_start, passed-turn, passed-stop, passed-end}
+use Rattle.pieces.proofs.Passing.{Passed}
 use Rattle.pieces.proofs.skip_run.Given as goal
 
 abbrev pub invariant-loop-i : goal.invariant-loop-i

@@ -1,9 +1,6 @@
 -- `span_run` passes by the places that lie in the gap, and widens the span by them. Assumes nothing.
-use Rattle.std.proofs.Common.{◌≡◌, ◌-◌, ◌≤◌, arith, rules}
-use Rattle.order.specs.Width.{width}
-use Rattle.pieces.specs.Gaps.{from_place}
-use Rattle.pieces.specs.Spans.{span_from}
-use Rattle.pieces.proofs.Passing.{next_fits, Passed, passed_start, passed-turn, reached-turn, reached-stop, reached-end}
+use Rattle.std.proofs.Common.{arith, rules}
+use Rattle.pieces.proofs.Passing.{next_fits, passed_start, passed-turn, reached-turn, reached-stop, reached-end}
 use Rattle.pieces.proofs.span_run.Goals as goal
 
 pub loop-i-init : goal.loop-i-init

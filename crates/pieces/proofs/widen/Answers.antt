@@ -1,5 +1,4 @@
 -- `widen`: the lower start and the higher end, where a span is asked for. Assumes nothing.
-use Rattle.std.proofs.Common.{rules}
 use Rattle.pieces.specs.Spans.{widened}
 use Rattle.pieces.proofs.widen.Goals as goal
 

@@ -1,6 +1,5 @@
 -- `count` is the paper's answer with the plan of the file: one law of `Counting` for each return. Assumes nothing.
 use mathlib.Core.Path.{◌≡◌, ap}
-use borrow.Author.Rules.{rules}
 use Rattle.paper.specs.declared.Counted.{Counted}
 use Rattle.rows.specs.Planning.{plan_by, plan_of}
 use Rattle.rows.specs.declared.Plan.{Plan}

@@ -1,7 +1,6 @@
 -- `judge_mask` opens the directory that the next offset leads to. Assumes nothing.
 use mathlib.Core.Path.{sym, ◌∙◌}
 use Rattle.second.proofs.Staged.{size, open-bad}
-use borrow.Author.Rules.{rules}
 use Rattle.second.proofs.judge_mask.Goals as goal
 
 pub open-o-requires : goal.open-o-requires

@@ -6,7 +6,6 @@ use Rattle.lines.specs.Lined.{all_say, says}
 use Rattle.lines.specs.Rows.{needed_by}
 use Rattle.lines.proofs.Gathered.{tags-are}
 use Rattle.second.proofs.Staged.{part-asked, entries-asked, next_low, scan-bad, next-bad, ready_with, columned}
-use borrow.Author.Rules.{rules}
 use Rattle.second.proofs.mask_laid.Goals as goal
 
 pub overflow_mul-c : goal.overflow_mul-c

@@ -5,7 +5,6 @@ use Rattle.lines.specs.Lined.{all_say, says}
 use Rattle.lines.specs.Rows.{needed_by}
 use Rattle.lines.proofs.Gathered.{tags-are}
 use Rattle.second.proofs.Pictured.{count-asked, count_room, part-asked, entries-asked, at_low, image-known, mask-known, crossed-is}
-use borrow.Author.Rules.{rules}
 use Rattle.second.proofs.mask_pictures.Goals as goal
 
 pub value-requires : goal.value-requires

@@ -1,5 +1,4 @@
 -- `agreeing_tags` is rule 12 over the values and three counts: four tests in the order of the tags. Assumes nothing.
-use borrow.Author.Rules.{rules}
 use Rattle.tags.proofs.Tested.{uneven-bits, bad-coded, tile-offsets, strip-offsets, tile-byte-counts, strip-byte-counts, all-agree}
 use Rattle.tags.proofs.agreeing_tags.Goals as goal
 

@@ -1,5 +1,4 @@
 -- `allowed_values` is rule 11 over the values: ten tests in the order of the tags. Assumes nothing.
-use borrow.Author.Rules.{rules}
 use Rattle.tags.proofs.Tested.{bad-width, bad-length, bad-bits, bad-coding, bad-light, bad-samples, bad-rows, bad-planar, none-tiled, bad-tile-width, bad-tile-length, all-allowed}
 use Rattle.tags.proofs.allowed_values.Goals as goal
 

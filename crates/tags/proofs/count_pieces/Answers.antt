@@ -1,5 +1,4 @@
 -- `count_pieces` is the number of strips, or the tiles across times the tiles down; no product of the two is too large. Assumes nothing.
-use borrow.Author.Rules.{rules}
 use Rattle.tags.specs.Numbers.{count_of_pieces}
 use Rattle.tags.proofs.Values.{product-fits}
 use Rattle.tags.proofs.count_pieces.Goals as goal

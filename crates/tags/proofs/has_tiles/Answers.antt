@@ -1,6 +1,5 @@
 -- `has_tiles` looks at the starts of the four tags of tiles. Assumes nothing.
 use mathlib.Core.Bool.{or-false}
-use borrow.Author.Rules.{rules}
 use Rattle.paper.specs.Tests.{some}
 use Rattle.tags.specs.Slots.{some_at}
 use Rattle.tags.proofs.has_tiles.Goals as goal

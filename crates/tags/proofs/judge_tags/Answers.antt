@@ -3,7 +3,6 @@
 use mathlib.Core.Path.{refl}
 use native.Mathlib.Omega.{arith}
 use lib.Dec.{lit<}
-use borrow.Author.Rules.{rules}
 use Rattle.paper.specs.Tags.{table}
 use Rattle.lines.specs.Rows.{needed_by}
 use Rattle.lines.specs.Lined.{says, all_say}

@@ -1,6 +1,5 @@
 -- `judge_values` is rules 11 and 12 where 27, 9 and 10 are kept: the values are fetched as the paper has them (`Fetched`). Assumes nothing.
 use native.Mathlib.Omega.{arith}
-use borrow.Author.Rules.{rules}
 use Rattle.paper.specs.Tags.{image_values, table}
 use Rattle.paper.proofs.Bounds.{table-named}
 use Rattle.tags.proofs.Fetched.{readable, untiled, bits-some, bits-end, bits-room}

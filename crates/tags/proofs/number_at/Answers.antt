@@ -2,7 +2,6 @@
 use Prim.Native.Nat.{◌+◌, ◌-◌}
 use mathlib.Core.Path.{◌≡◌}
 use native.Mathlib.Omega.{arith}
-use borrow.Author.Rules.{rules}
 use Rattle.paper.specs.Layout.{size_of}
 use Rattle.tags.specs.Numbers.{number_in, short_in}
 use Rattle.tags.proofs.Values.{long-within, not-long, short-within}

@@ -1,13 +1,8 @@
 -- `read_bits` tells of the values of 258 the first, whether all are allowed, and whether all are the first: at each turn of those before i. Assumes nothing.
-use Prim.Native.Nat.{◌-◌, ◌≤◌}
 use mathlib.Core.Path.{refl, sym}
 use native.Mathlib.Omega.{arith}
-use lib.Dec.{eqb}
-use borrow.Author.Rules.{rules}
 use borrow.Author.Tests.{eq-eqb}
-use Rattle.paper.specs.Tests.{allows}
-use Rattle.tags.specs.Numbers.{depths}
-use Rattle.tags.proofs.Values.{SoFar, so-far-none, so_far_more, bits-read}
+use Rattle.tags.proofs.Values.{so-far-none, so_far_more, bits-read}
 use Rattle.tags.proofs.read_bits.Goals as goal
 
 pub loop-i-init : goal.loop-i-init

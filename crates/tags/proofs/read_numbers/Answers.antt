@@ -1,6 +1,5 @@
 -- `read_numbers` fetches each value of a tag with one number. Assumes nothing.
 use native.Mathlib.Omega.{arith}
-use borrow.Author.Rules.{rules}
 use Rattle.tags.specs.Numbers.{numbers_in}
 use Rattle.tags.proofs.read_numbers.Goals as goal
 

@@ -1,6 +1,5 @@
 -- `rounded_up` is the quotient, which is no more than what is divided. Assumes nothing.
 use mathlib.Core.Path.{refl}
-use borrow.Author.Rules.{rules}
 use Rattle.paper.specs.Tags.{rounded_up}
 use Rattle.tags.proofs.Values.{rounded-low}
 use Rattle.tags.proofs.rounded_up.Goals as goal

@@ -1,6 +1,5 @@
 -- `citation` hands back the part that `cite` found. Assumes nothing.
 use mathlib.Core.Path.{ap, ◌∙◌}
-use borrow.Author.Rules.{rules}
 use Rattle.paper.specs.declared.Cited.{Cited}
 use Rattle.texts.proofs.Citing.{cut}
 use Rattle.texts.proofs.citation.Goals as goal

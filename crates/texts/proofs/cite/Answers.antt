@@ -1,7 +1,6 @@
 -- `cite` is the paper's citation: a refused file's verdict, and else what `cite_examined` finds. Assumes nothing.
 use Prim.Native.Nat.{zero-le}
 use mathlib.Core.Path.{◌∙◌}
-use borrow.Author.Rules.{rules}
 use Rattle.texts.proofs.Citing.{refused}
 use Rattle.texts.proofs.cite.Goals as goal
 

@@ -2,9 +2,8 @@
 use Prim.Native.Nat.{zero-le}
 use mathlib.Core.Path.{◌∙◌}
 use native.Mathlib.Omega.{arith}
-use borrow.Author.Rules.{rules}
 use Rattle.texts.proofs.Entries.{lists}
-use Rattle.texts.proofs.Citing.{Found, no_kind, no_key, found-so}
+use Rattle.texts.proofs.Citing.{no_kind, no_key, found-so}
 use Rattle.texts.proofs.cite_examined.Goals as goal
 
 pub returns-then-kind-ne-ASCII : goal.returns-then-kind-ne-ASCII

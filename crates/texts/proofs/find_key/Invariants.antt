@@ -1,10 +1,9 @@
 -- `find_key` is the paper's search among the key entries: at each turn what the entries from i on give is what all give, `Sought`. Assumes nothing.
 use Prim.Native.Nat.{◌-◌, ◌≤◌}
 use mathlib.Core.List.{[]}
-use native.Mathlib.Omega.{arith}
 use Rattle.paper.specs.Keys.{key_at}
 use Rattle.keys.specs.Pass.{runs}
-use Rattle.texts.proofs.Sought.{Sought, seek-start, seek_found, seek-on, seek-none}
+use Rattle.texts.proofs.Sought.{Sought}
 use Rattle.texts.proofs.find_key.Given as goal
 
 abbrev pub invariant-loop-i : goal.invariant-loop-i

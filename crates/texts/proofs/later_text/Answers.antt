@@ -2,7 +2,6 @@
 use Prim.Native.Nat.{zero-le}
 use mathlib.Core.Path.{refl}
 use native.Mathlib.Omega.{arith}
-use borrow.Author.Rules.{rules}
 use Rattle.texts.proofs.Telling.{later, later-asked}
 use Rattle.texts.proofs.later_text.Goals as goal
 

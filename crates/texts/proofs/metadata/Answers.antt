@@ -1,6 +1,5 @@
 -- `metadata` hands back the part that `text` found, of the file or of the outside text. Assumes nothing.
 use mathlib.Core.Path.{ap, ◌∙◌}
-use borrow.Author.Rules.{rules}
 use Rattle.paper.specs.declared.Text.{Text}
 use Rattle.texts.proofs.Telling.{of-file, of-outside, in-file, in-outside}
 use Rattle.texts.proofs.metadata.Goals as goal

@@ -1,7 +1,6 @@
 -- `text` is the paper's place of a metadata text: refused, one behind the first, outside, or the first in the file. Assumes nothing.
 use Prim.Native.Nat.{zero-le}
 use native.Mathlib.Omega.{arith}
-use borrow.Author.Rules.{rules}
 use Rattle.texts.proofs.Telling.{refused, told, in-text}
 use Rattle.texts.proofs.text.Goals as goal
 
