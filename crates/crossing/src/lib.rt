@@ -79,7 +79,7 @@ fn within(file: &[u8], big: bool, p: Runs) -> Placed
 }
 
 // Whether one of these places shares a byte with a part of three pairs of columns, or with one that `more` further entries of type BYTE name.
-fn crosses(
+fn crosses_all(
     file: &[u8],
     big: bool,
     p: Runs,
@@ -96,7 +96,7 @@ fn crosses(
     sizes: &[usize],
     m3: usize,
 ) -> bool
-    requires { Standing file.now p × Spanned (length file.now) (places_in file.now big p) span × (length file.now ≤ 4294967295) × (12 * more ≤ length further.now) × Columns starts.now lens.now m × Columns starts2.now lens2.now m2 × Columns ends.now sizes.now m3 }
+    requires { Standing file.now p × Spanned (length file.now) (places_in file.now big p) span × (12 * more ≤ length further.now) × Columns starts.now lens.now m × Columns starts2.now lens2.now m2 × Columns ends.now sizes.now m3 }
     ensures { result ≡ some (touches (list_of big further.now more starts.now lens.now m starts2.now lens2.now m2 ends.now sizes.now m3)) (places_in file.now big p) }
 {
     let o = p.offsets;
@@ -142,14 +142,14 @@ fn mask_crosses(
     p: Runs,
     span: Span,
 ) -> bool
-    requires { Standing file.now p × Spanned (length file.now) (places_in file.now big p) span × (length file.now ≤ 4294967295) × Listing many at c istarts.now ilens.now × Inside file.now further × Listing mask_many mat mc starts.now lens.now }
+    requires { Standing file.now p × Spanned (length file.now) (places_in file.now big p) span × Listing many at c istarts.now ilens.now × Inside file.now further × Listing mask_many mat mc starts.now lens.now }
     ensures { result ≡ some (touches (both_lists file.now big at c istarts.now ilens.now further mat mc starts.now lens.now)) (places_in file.now big p) }
 {
     let more = further.many;
     let later = layout::value(file, further.start, 12 * more);
     let ends = [0, at, mat];
     let sizes = [8, 2 + 12 * c + 4, 2 + 12 * mc + 4];
-    crosses(
+    crosses_all(
         file,
         big,
         p,
@@ -179,13 +179,13 @@ fn image_crosses(
     p: Runs,
     span: Span,
 ) -> bool
-    requires { Standing file.now p × Spanned (length file.now) (places_in file.now big p) span × (length file.now ≤ 4294967295) × Listing mask_many mat mc mstarts.now mlens.now }
+    requires { Standing file.now p × Spanned (length file.now) (places_in file.now big p) span × Listing mask_many mat mc mstarts.now mlens.now }
     ensures { result ≡ some (touches (mask_list mat mc mstarts.now mlens.now)) (places_in file.now big p) }
 {
     let none = layout::value(file, 0, 0);
     let ends = [mat];
     let sizes = [2 + 12 * mc + 4];
-    crosses(
+    crosses_all(
         file,
         big,
         p,

@@ -134,7 +134,7 @@ fn narrow(g: Gap, byte: usize, further: &[u8], big: bool, many: usize) -> Gap
 
 // Whether a place has no bytes or does not lie in the gap from lo up to hi. Its ends are counted from lo: one that starts before lo wraps around.
 fn is_out(start: usize, len: usize, lo: usize, hi: usize) -> bool
-    requires { (start < 4294967296) × (len < 4294967296) × (lo ≤ hi) × (hi ≤ 4294967295) }
+    requires { (start < 4294967296) × (len < 4294967296) × (lo ≤ hi) }
     ensures { result ≡ nat_lt start lo || (len == 0 || nat_lt hi (start + len)) }
 {
     let from = std::num::wrapping_sub_usize(start, lo);
@@ -186,7 +186,7 @@ fn skip_run(
     lo: usize,
     hi: usize,
 ) -> Stop
-    requires { (from ≤ k) × (k < 4294967296) × (width wideoffsets * k ≤ length offsets.now) × (width widebytecounts * k ≤ length bytecounts.now) × (lo ≤ hi) × (hi ≤ 4294967295) }
+    requires { (from ≤ k) × (k < 4294967296) × (width wideoffsets * k ≤ length offsets.now) × (width widebytecounts * k ≤ length bytecounts.now) × (lo ≤ hi) }
     ensures { Skipped big (width wideoffsets) offsets.now (width widebytecounts) bytecounts.now k lo hi from result }
 {
     let mut i = from;
@@ -217,7 +217,7 @@ fn skip(
     lo: usize,
     hi: usize,
 ) -> Stop
-    requires { (from ≤ k) × (k < 4294967296) × (width wideoffsets * k ≤ length offsets.now) × (width widebytecounts * k ≤ length bytecounts.now) × (lo ≤ hi) × (hi ≤ 4294967295) }
+    requires { (from ≤ k) × (k < 4294967296) × (width wideoffsets * k ≤ length offsets.now) × (width widebytecounts * k ≤ length bytecounts.now) × (lo ≤ hi) }
     ensures { Skipped big (width wideoffsets) offsets.now (width widebytecounts) bytecounts.now k lo hi from result }
 {
     if wideoffsets {
@@ -295,33 +295,47 @@ fn skip_spanned(
     k: usize,
     lo: usize,
     hi: usize,
-    s: Span,
+    span: Span,
 ) -> Reach
     requires { (from ≤ k) × (k < 4294967296) × (width wideoffsets * k ≤ length offsets.now) × (width widebytecounts * k ≤ length bytecounts.now) × (lo ≤ hi) × (hi ≤ 4294967295) }
-    ensures { Reached big (width wideoffsets) offsets.now (width widebytecounts) bytecounts.now k lo hi from true s result }
+    ensures { Reached big (width wideoffsets) offsets.now (width widebytecounts) bytecounts.now k lo hi from true span result }
 {
     if wideoffsets {
         if widebytecounts {
             if big {
-                return span_run(offsets, true, bytecounts, true, true, from, k, lo, hi, s);
+                return span_run(offsets, true, bytecounts, true, true, from, k, lo, hi, span);
             }
-            return span_run(offsets, true, bytecounts, true, false, from, k, lo, hi, s);
+            return span_run(
+                offsets, true, bytecounts, true, false, from, k, lo, hi, span,
+            );
         }
         if big {
-            return span_run(offsets, true, bytecounts, false, true, from, k, lo, hi, s);
+            return span_run(
+                offsets, true, bytecounts, false, true, from, k, lo, hi, span,
+            );
         }
-        return span_run(offsets, true, bytecounts, false, false, from, k, lo, hi, s);
+        return span_run(
+            offsets, true, bytecounts, false, false, from, k, lo, hi, span,
+        );
     }
     if widebytecounts {
         if big {
-            return span_run(offsets, false, bytecounts, true, true, from, k, lo, hi, s);
+            return span_run(
+                offsets, false, bytecounts, true, true, from, k, lo, hi, span,
+            );
         }
-        return span_run(offsets, false, bytecounts, true, false, from, k, lo, hi, s);
+        return span_run(
+            offsets, false, bytecounts, true, false, from, k, lo, hi, span,
+        );
     }
     if big {
-        return span_run(offsets, false, bytecounts, false, true, from, k, lo, hi, s);
+        return span_run(
+            offsets, false, bytecounts, false, true, from, k, lo, hi, span,
+        );
     }
-    span_run(offsets, false, bytecounts, false, false, from, k, lo, hi, s)
+    span_run(
+        offsets, false, bytecounts, false, false, from, k, lo, hi, span,
+    )
 }
 
 // The search with the span where one is asked for, and else without: so each has loops of its own.
@@ -740,7 +754,7 @@ pub fn clashes_all(
     lens3: &[usize],
     m3: usize,
 ) -> bool
-    requires { (k < 4294967296) × (width wideoffsets * k ≤ length offsets.now) × (width widebytecounts * k ≤ length bytecounts.now) × (n ≤ 4294967295) × (rule13 n (places_of big (width wideoffsets) offsets.now (width widebytecounts) bytecounts.now k) ≡ kept) × (span ≡ span_of (places_of big (width wideoffsets) offsets.now (width widebytecounts) bytecounts.now k)) × (12 * many ≤ length further.now) × Columns starts.now lens.now m × Columns starts2.now lens2.now m2 × Columns starts3.now lens3.now m3 }
+    requires { (k < 4294967296) × (width wideoffsets * k ≤ length offsets.now) × (width widebytecounts * k ≤ length bytecounts.now) × (rule13 n (places_of big (width wideoffsets) offsets.now (width widebytecounts) bytecounts.now k) ≡ kept) × (span ≡ span_of (places_of big (width wideoffsets) offsets.now (width widebytecounts) bytecounts.now k)) × (12 * many ≤ length further.now) × Columns starts.now lens.now m × Columns starts2.now lens2.now m2 × Columns starts3.now lens3.now m3 }
     ensures { result ≡ some (touches (list_of big further.now many starts.now lens.now m starts2.now lens2.now m2 starts3.now lens3.now m3)) (places_of big (width wideoffsets) offsets.now (width widebytecounts) bytecounts.now k) }
 {
     if k == 0 {

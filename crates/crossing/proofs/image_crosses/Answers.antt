@@ -4,12 +4,12 @@ use Prim.Native.Nat.{zero-le}
 use native.Mathlib.Omega.{arith}
 use Rattle.crossing.proofs.image_crosses.Goals as goal
 
-pub crosses-requires : goal.crosses-requires
-crosses-requires c =
+pub crosses_all-requires : goal.crosses_all-requires
+crosses_all-requires c =
     let p = c.requires in
-    let l = p.3 in
+    let l = p.2 in
     let e = mask-ends-low l in
-    (p.0, p.1, p.2, zero-le, columns l, (zero-le, zero-le, l.starts_low, l.lens_low), (omega arith, omega arith, e.0, e.1))
+    (p.0, p.1, zero-le, columns l, (zero-le, zero-le, l.starts_low, l.lens_low), (omega arith, omega arith, e.0, e.1))
 
 pub returns : goal.returns
-returns c = mask-listed _ _ _ _ _ _ _ c.crosses.ensures
+returns c = mask-listed _ _ _ _ _ _ _ c.crosses_all.ensures

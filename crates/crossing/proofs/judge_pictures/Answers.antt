@@ -19,7 +19,7 @@ mask_crosses-requires c =
     let p = c.requires in
     let r = c.runs_of-m.ensures in
     let s = mask-spanned p.1 p.0 r c.within-p.ensures c.if-p-ne0.false in
-    (mask-standing p.1 r, s, (mask_size p.1).1, image-listing p.1 p.0, image-inside p.1 p.0, mask-listing p.1)
+    (mask-standing p.1 r, s, image-listing p.1 p.0, image-inside p.1 p.0, mask-listing p.1)
 
 pub returns-then-mask_crosses : goal.returns-then-mask_crosses
 returns-then-mask_crosses c =
@@ -34,7 +34,7 @@ runs_of-i-requires c =
 pub image_crosses-requires : goal.image_crosses-requires
 image_crosses-requires c =
     let p = c.requires in
-    (image-standing p.1 p.0 c.runs_of-i.ensures, image-spanned p.1 p.0 c.runs_of-i.ensures, (mask_size p.1).1, mask-listing p.1)
+    (image-standing p.1 p.0 c.runs_of-i.ensures, image-spanned p.1 p.0 c.runs_of-i.ensures, mask-listing p.1)
 
 pub returns-then-image_crosses : goal.returns-then-image_crosses
 returns-then-image_crosses c =

@@ -26,7 +26,7 @@ gap_among-g-requires c = search (rules, apart_low)
 pub returns-then-start-g : goal.returns-then-start-g
 returns-then-start-g c =
     let p = c.requires in
-    apart-clash _ _ _ _ _ _ _ _ p.4 _ _ _ c.loop-at.invariant c.loop-at-test.true _ c.gap_among-g.ensures c.if-start-g.true
+    apart-clash _ _ _ _ _ _ _ _ p.3 _ _ _ c.loop-at.invariant c.loop-at-test.true _ c.gap_among-g.ensures c.if-start-g.true
 
 pub overflow_add-at : goal.overflow_add-at
 overflow_add-at c =
@@ -36,13 +36,13 @@ pub skip-s-requires : goal.skip-s-requires
 skip-s-requires c =
     let p = c.requires in
     let f = c.gap_among-g.ensures in
-    let room = apart-room _ _ _ _ _ _ _ _ p.4 _ _ _ c.loop-at.invariant c.loop-at-test.true _ f c.if-start-g.false in
-    (omega arith, p.0, p.1, p.2, room, omega (arith, f.high))
+    let room = apart-room _ _ _ _ _ _ _ _ p.3 _ _ _ c.loop-at.invariant c.loop-at-test.true _ f c.if-start-g.false in
+    (omega arith, p.0, p.1, p.2, room)
 
 pub loop-at-preserved : goal.loop-at-preserved
 loop-at-preserved c =
     let p = c.requires in
-    apart_next _ _ _ _ _ _ _ _ p.4 _ _ _ c.loop-at.invariant c.loop-at-test.true _ c.gap_among-g.ensures c.if-start-g.false _ c.skip-s.ensures
+    apart_next _ _ _ _ _ _ _ _ p.3 _ _ _ c.loop-at.invariant c.loop-at-test.true _ c.gap_among-g.ensures c.if-start-g.false _ c.skip-s.ensures
 
 pub returns : goal.returns
 returns c = search (rules, apart-end)
