@@ -1,9 +1,9 @@
--- The gap around a byte as `narrow_by`, `gap_of` and `narrow` compute it, whether parts have a byte in a span as `meets`, `meets_named` and `meets_all` tell, and
--- the ends of a place as `is_out` counts them: one law for each answer, with the facts of its path as premises. Assumes nothing.
-use Rattle.std.proofs.Common.{◌≡◌, ℕ, ◌+◌, ◌-◌, ◌*◌, ◌%◌, ◌<◌, ◌≤◌, min, max, Bool, true, false, cond, not, ◌&&◌, ◌||◌, eqb, ltb, leb, List, [], ◌∷◌, ◌++◌, get_or, sym, refl, ap, ◌∙◌, subst, append-nil, zero-le, zero-add, arith, ltb-false, ltb-true, le-ltb, lt-ltb, ne_eqb, eqb-true, le-leb, leb-true}
-use mathlib.Core.Bool.{or-true, and_assoc, false≢true}
+-- The gap around a byte as `narrow_by`, `gap_of` and `narrow` compute it, whether parts have a byte in a span as `meets`, `meets_named` and `meets_all` tell:
+-- one law for each answer, with the facts of its path as premises. Assumes nothing.
+use Rattle.std.proofs.Common.{◌≡◌, ℕ, ◌+◌, ◌-◌, ◌*◌, ◌<◌, ◌≤◌, min, max, Bool, true, false, cond, not, ◌&&◌, ◌||◌, eqb, ltb, leb, List, [], ◌∷◌, ◌++◌, get_or, sym, refl, ap, ◌∙◌, subst, append-nil, zero-le, zero-add, arith, ltb-false, ltb-true, le-ltb, ne_eqb, le-leb, leb-true}
+use mathlib.Core.Bool.{and_assoc, false≢true}
 use native.Mathlib.Nat.{sub-zero}
-use borrow.Author.Tests.{eqb-false, lt-leb}
+use borrow.Author.Tests.{lt-leb}
 use Rattle.paper.specs.Bytes.{num, build}
 use Rattle.paper.specs.Tests.{all, keep}
 use Rattle.paper.specs.Pieces.{part}
@@ -325,42 +325,3 @@ module _ (big : Bool) (s : List ℕ) (many : ℕ) (starts lens : List ℕ) (m : 
   pub gap-all : (byte n : ℕ) (g : Gap) → Found byte n (Named ++ (First ++ (Second ++ Third))) g → Found byte n Listed g
   unfolding list_of
   gap-all byte n g f = f
-
--- ---- is_out: the ends of a place as counted from lo, in 64 bits
-
-pub out-is : (start len lo hi from to : ℕ) → start < 4294967296 → len < 4294967296 → lo ≤ hi → hi ≤ 4294967295 → from < 18446744073709551616
-    → (from + lo) % 18446744073709551616 ≡ start → to ≡ (from + len) % 18446744073709551616
-    → leb to from || ltb (hi - lo) to ≡ ltb start lo || (eqb len 0 || ltb hi (start + len))
-out-is start len lo hi from to s l h k f a b = go (ltb start lo) refl
-  where
-    go : (t : Bool) → ltb start lo ≡ t → leb to from || ltb (hi - lo) to ≡ t || (eqb len 0 || ltb hi (start + len))
-    go true e = let x : start < lo = ltb-true _ _ e in before x (ltb (from + len) 18446744073709551616) refl
-      where
-        before : start < lo → (t : Bool) → ltb (from + len) 18446744073709551616 ≡ t → leb to from || ltb (hi - lo) to ≡ true
-        before x true e =
-            let y : from + len < 18446744073709551616 = ltb-true _ _ e in
-            let z : hi - lo < to = omega arith in
-            rw (lt-ltb (hi - lo) to z) (or-true (leb to from))
-        before x false e =
-            let y : 18446744073709551616 ≤ from + len = ltb-false _ _ e in
-            let z : to ≤ from = omega arith in
-            rw (le-leb to from z)
-    go false e =
-        let x : lo ≤ start = ltb-false _ _ e in
-        let p : from ≡ start - lo = omega arith in
-        let q : to ≡ start - lo + len = omega arith in
-        rw (p, q) (after x (eqb len 0) refl)
-      where
-        after : lo ≤ start → (t : Bool) → eqb len 0 ≡ t → leb (start - lo + len) (start - lo) || ltb (hi - lo) (start - lo + len) ≡ t || ltb hi (start + len)
-        after x true e =
-            let z : len ≡ 0 = eqb-true _ _ e in
-            let y : start - lo + len ≤ start - lo = omega arith in
-            rw (le-leb (start - lo + len) (start - lo) y)
-        after x false e =
-            let z : len ≡ 0 → ⊥ = eqb-false _ _ e in
-            let y : start - lo < start - lo + len = omega arith in
-            rw (lt-leb (start - lo + len) (start - lo) y) (same (ltb hi (start + len)) refl)
-          where
-            same : (t : Bool) → ltb hi (start + len) ≡ t → ltb (hi - lo) (start - lo + len) ≡ t
-            same true u = let w : hi < start + len = ltb-true _ _ u in lt-ltb (hi - lo) (start - lo + len) (omega arith)
-            same false u = let w : start + len ≤ hi = ltb-false _ _ u in le-ltb (hi - lo) (start - lo + len) (omega arith)
