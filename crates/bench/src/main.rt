@@ -1,14 +1,25 @@
 // The bench program: judges standard input, of at most 65,536 bytes, and prints the verdict and, of an accepted file, its key rows.
 #![tactic(auto)]
 
-use libc::{STDIN_FILENO, STDOUT_FILENO};
+ghost use Rattle.std.specs.Prelude.{[], OnOk, IfSome};
+ghost use Rattle.std.specs.Io.KnownBytes.{Appends};
+ghost use Rattle.report.specs.Printed.{answer_of};
 
-fn main() {
+use std::io;
+use std::io::{Read, Write};
+
+// The answer to what stands in a reader.
+fn judge<R: Read, W: Write>(out: &mut W, input: &mut R) -> io::Result<()>
+    ensures { OnOk result (IfSome (R.remaining input.old) (λ xs. Appends (W.contents out.old) (W.contents out.new) (answer_of [] xs))) }
+{
     let mut buf = [0u8; 65537];
-    let n = io::read_full(STDIN_FILENO, &mut buf);
+    let n = report::read_full(input, &mut buf)?;
     if 65536 < n {
-        io::write_all(STDOUT_FILENO, b"too long\n");
-        return;
+        return writeln!(out, "too long");
     }
-    report::print(&buf[..n]);
+    report::print(out, &buf[..n])
+}
+
+fn main(rt: HostRuntime) -> io::Result<()> {
+    judge(&mut io::writer(&rt), &mut rt.stdin())
 }

@@ -1,57 +1,74 @@
 // What the programs print about a file: its verdict and, if it is accepted, its key rows. Document 01's bench lines, with request C-15's fifth number.
 #![tactic(auto)]
 
-ghost use Rattle.std.specs.Prelude.{◌≤◌};
+ghost use Rattle.std.specs.Prelude.{◌≤◌, ◌<◌, ◌++◌, length, take, codes, IfOk, OnOk};
+ghost use Rattle.std.specs.Io.KnownBytes.{Appends, Consumes, IsAtEnd};
+ghost use Rattle.report.specs.Printed.{row_line, key_lines, lines_of};
 
-use libc::STDOUT_FILENO;
 use paper::Row;
-
-// A text, and a number in decimal behind it.
-fn print_number(text: &[u8], number: u32) {
-    io::write_all(STDOUT_FILENO, text);
-    io::print_decimal(STDOUT_FILENO, number as u64);
-}
+use std::io;
+use std::io::{Read, Write};
 
 // A key line: key, kind, first byte, length, place of the entry.
-fn print_row(row: Row) {
-    io::print_decimal(STDOUT_FILENO, row.key as u64);
-    print_number(b" ", row.kind);
-    print_number(b" ", row.first);
-    print_number(b" ", row.len);
-    print_number(b" ", row.entry);
-    io::write_all(STDOUT_FILENO, b"\n");
+fn print_row<W: Write>(out: &mut W, row: Row) -> io::Result<()>
+    ensures { OnOk result (Appends (W.contents out.old) (W.contents out.new) (row_line row)) }
+{
+    writeln!(
+        out,
+        "{} {} {} {} {}",
+        row.key, row.kind, row.first, row.len, row.entry
+    )
 }
 
 // The line of K, and a line for each key row of an accepted file.
-fn print_rows(keys: u32, rows: [Row; 256])
+fn print_rows<W: Write>(out: &mut W, keys: u32, rows: [Row; 256]) -> io::Result<()>
     requires { keys ≤ 256 }
+    ensures { OnOk result (Appends (W.contents out.old) (W.contents out.new) (key_lines keys rows)) }
 {
-    print_number(b"keys ", keys);
-    io::write_all(STDOUT_FILENO, b"\n");
-    let k = keys as usize;
-    let mut i = 0;
-    while i < k {
-        print_row(rows[i]);
-        i += 1;
+    writeln!(out, "keys {keys}")?;
+    for row in &rows[..keys as usize] {
+        print_row(out, *row)?;
     }
+    Ok(())
 }
 
 // Verdict and place on one line; of an accepted file then K and the key rows, as the call wrote them to 256 lent rows.
-pub fn print(file: &[u8]) {
+pub fn print<W: Write>(out: &mut W, file: &[u8]) -> io::Result<()>
+    ensures { OnOk result (Appends (W.contents out.old) (W.contents out.new) (lines_of file.now)) }
+{
     let lent = rows::lend(file);
     let counted = lent.counted;
-    print_number(b"verdict ", counted.verdict.number);
-    print_number(b" place ", counted.verdict.place);
-    io::write_all(STDOUT_FILENO, b"\n");
-    if counted.verdict.number == 0 {
+    let verdict = counted.verdict;
+    writeln!(out, "verdict {} place {}", verdict.number, verdict.place)?;
+    if verdict.number == 0 {
         let rows = lent.rows;
-        print_rows(counted.keys, rows);
+        print_rows(out, counted.keys, rows)?;
     }
+    Ok(())
 }
 
 // The same, with a name and a space in front.
-pub fn print_named(name: &[u8], file: &[u8]) {
-    io::write_all(STDOUT_FILENO, name);
-    io::write_all(STDOUT_FILENO, b" ");
-    print(file);
+pub fn print_named<W: Write>(out: &mut W, name: &[u8], file: &[u8]) -> io::Result<()>
+    ensures { OnOk result (Appends (W.contents out.old) (W.contents out.new) (name.now ++ (codes " " ++ lines_of file.now))) }
+{
+    out.write_all(name)?;
+    out.write_all(b" ")?;
+    print(out, file)
+}
+
+// Reads until buf is full or the input ends, and returns how many bytes it put at the start of buf.
+pub fn read_full<R: Read>(input: &mut R, buf: &mut [u8]) -> io::Result<usize>
+    ensures fits { IfOk result (λ n. n ≤ length buf.new) }
+    ensures bytes { IfOk result (λ n. Consumes (R.remaining input.old) (R.remaining input.new) (take n buf.new)) }
+    ensures end { IfOk result (λ n. n < length buf.new → IsAtEnd (R.remaining input.new)) }
+{
+    let mut n = 0;
+    while n < buf.len() {
+        let more = input.read(&mut buf[n..])?;
+        if more == 0 {
+            break;
+        }
+        n += more;
+    }
+    Ok(n)
 }

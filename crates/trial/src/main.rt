@@ -6,9 +6,9 @@ ghost use Rattle.layout.specs.Opening.{headed_of, LaidAt};
 ghost use Rattle.layout.specs.declared.Headed.TheVariants.{Good};
 ghost use Rattle.trial.specs.Trial.{trial_of};
 
-use libc::STDOUT_FILENO;
 use lines::{LONG, NO, SHORT, TAG, WIDE, YES};
 use paper::Verdict;
+use std::io;
 
 // ---- the table
 
@@ -196,34 +196,30 @@ const WIDTH_ALONE: [u8; 26] = *b"MM\0*\0\0\0\x08\
     \0\0\0\0";
 
 // The line of a file: verdict and place.
-fn print_verdict(file: &[u8]) {
+fn print_verdict(rt: &impl Print, file: &[u8]) -> io::Result<()> {
     let v = judge_trial(file);
-    io::write_all(STDOUT_FILENO, b"verdict ");
-    io::print_decimal(STDOUT_FILENO, v.number as u64);
-    io::write_all(STDOUT_FILENO, b" place ");
-    io::print_decimal(STDOUT_FILENO, v.place as u64);
-    io::write_all(STDOUT_FILENO, b"\n");
+    println!(rt; "verdict {} place {}", v.number, v.place)
 }
 
 // That of the good file with another byte at a place.
-fn print_changed(place: usize, byte: u8)
+fn print_changed(rt: &impl Print, place: usize, byte: u8) -> io::Result<()>
     requires { place < 54 }
 {
     let mut file = GOOD;
     file[place] = byte;
-    print_verdict(&file);
+    print_verdict(rt, &file)
 }
 
-fn main() {
-    print_verdict(&GOOD);
+fn main(rt: HostRuntime) -> io::Result<()> {
+    print_verdict(&rt, &GOOD)?;
     // No resolution.
-    print_verdict(&WIDTH_ALONE);
+    print_verdict(&rt, &WIDTH_ALONE)?;
     // A width of type BYTE.
-    print_changed(12, 1);
+    print_changed(&rt, 12, 1)?;
     // A resolution of both numbers.
-    print_changed(26, 2);
+    print_changed(&rt, 26, 2)?;
     // Tag 26 behind tag 256.
-    print_changed(23, 0);
+    print_changed(&rt, 23, 0)?;
     // No entry.
-    print_changed(8, 0);
+    print_changed(&rt, 8, 0)
 }

@@ -1,36 +1,43 @@
 // Judges each file that an argument names, of at most 65,536 bytes, and prints of each what the bench program prints, behind its name.
 #![tactic(auto)]
 
-use libc::STDOUT_FILENO;
+ghost use Rattle.std.specs.Prelude.{◌++◌, codes, OnOk, IfSome};
+ghost use Rattle.std.specs.Io.KnownBytes.{Appends};
+ghost use Rattle.report.specs.Printed.{answer_of};
 
-// The file that argument i names.
-fn judge_one(i: usize) {
-    let mut path = [0u8; 256];
-    let k = os::arg(i, &mut path);
-    if os::errno() != 0 {
-        io::write_all(STDOUT_FILENO, b"no such argument\n");
-        return;
-    }
-    let fd = os::open_read(&path[..k]);
-    if fd < 0 {
-        io::write_all(STDOUT_FILENO, b"cannot open\n");
-        return;
-    }
+use std::fs::File;
+use std::io::{BufWriter, Read, Write};
+use std::rt::Files;
+use std::{env, io};
+
+// The answer to what stands in a reader, behind its name.
+fn judge<R: Read, W: Write>(out: &mut W, name: &[u8], input: &mut R) -> io::Result<()>
+    ensures { OnOk result (IfSome (R.remaining input.old) (λ xs. Appends (W.contents out.old) (W.contents out.new) (answer_of (name.now ++ codes " ") xs))) }
+{
     let mut buf = [0u8; 65537];
-    let n = io::read_full(fd, &mut buf);
-    libc::close(fd);
+    let n = report::read_full(input, &mut buf)?;
     if 65536 < n {
-        io::write_all(STDOUT_FILENO, b"too long\n");
-        return;
+        return writeln!(out, "too long");
     }
-    report::print_named(&path[..k], &buf[..n]);
+    report::print_named(out, name, &buf[..n])
 }
 
-fn main() {
-    let n = os::arg_count();
-    let mut i = 1;
-    while i < n {
-        judge_one(i);
-        i += 1;
+// The file of a name, which has at most 256 bytes.
+fn judge_one<W: Write>(files: &impl Files, out: &mut W, name: &str) -> io::Result<()> {
+    if 256 < name.len() {
+        return writeln!(out, "no such argument");
     }
+    match File::open(files, name) {
+        Ok(mut file) => judge(out, name.as_bytes(), &mut file),
+        Err(_) => writeln!(out, "cannot open"),
+    }
+}
+
+// Argument 0 is the program's own name.
+fn main(rt: HostRuntime) -> io::Result<()> {
+    let mut out = BufWriter::new(rt.alloc(), io::writer(&rt))?;
+    for name in env::args(&rt)?.skip(1) {
+        judge_one(&rt, &mut out, name.as_str())?;
+    }
+    out.flush()
 }
