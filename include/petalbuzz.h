@@ -37,9 +37,9 @@
  * functions are the symbols of the library, with its own conditions on
  * pointers.
  *
- * Link with libpetalbuzz.a (x86-64); it needs no other library. Take this header
- * and the library from one commit, and compile the host anew with them: a later
- * one may have longer structs. */
+ * Link with libpetalbuzz.a (x86-64, with the instructions of x86-64-v2); it needs
+ * no other library. Take this header and the library from one commit, and compile
+ * the host anew with them: a later one may have longer structs. */
 #ifndef PETALBUZZ_H
 #define PETALBUZZ_H
 

@@ -1,13 +1,11 @@
 //! Links the static library where the target is x86-64, which is all it is
-//! made for: cfg `direct`. LINK_DIR names another folder with the library, as
-//! outside/retarget makes one for the machine at hand.
+//! made for: cfg `direct`.
 
 use std::env;
 use std::path::{Path, PathBuf};
 
 fn main() {
     println!("cargo:rustc-check-cfg=cfg(direct)");
-    println!("cargo:rerun-if-env-changed=LINK_DIR");
     let Some(folder) = folder() else { return };
     let archive = folder.join("libpetalbuzz.a");
     println!("cargo:rerun-if-changed={}", archive.display());
@@ -20,10 +18,7 @@ fn main() {
 
 /// The folder of a library for the target, if there can be one.
 fn folder() -> Option<PathBuf> {
-    if let Some(named) = env::var_os("LINK_DIR") {
-        return Some(PathBuf::from(named));
-    }
     let here = env::var_os("CARGO_MANIFEST_DIR").expect("set by cargo");
     let x86 = env::var("CARGO_CFG_TARGET_ARCH").is_ok_and(|arch| arch == "x86_64");
-    x86.then(|| Path::new(&here).join("../target/staticlib"))
+    x86.then(|| Path::new(&here).join("../crates/petalbuzz/out"))
 }

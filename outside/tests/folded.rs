@@ -128,7 +128,7 @@ fn section<'a>(object: &'a [u8], name: &str) -> Option<&'a [u8]> {
 
 #[test]
 fn the_table_is_folded_into_the_code() {
-    let path = root().join("target/staticlib/libpetalbuzz.a");
+    let path = root().join("crates/petalbuzz/out/libpetalbuzz.a");
     let archive = fs::read(&path).unwrap_or_else(|why| panic!("{}: {why}", path.display()));
     let object = archive.windows(4).position(|bytes| bytes == b"\x7FELF").expect("an object");
     let object = &archive[object..];

@@ -134,7 +134,7 @@ fn count(files: &[Vec<u8>]) {
 #[cfg(not(direct))]
 mod measure {
     pub fn time(_: &[Vec<u8>]) {
-        panic!("the static library is not linked: x86-64, or LINK_DIR");
+        panic!("the static library is not linked: it is missing, or the machine is not x86-64");
     }
 
     pub fn run(_: &str, _: usize, _: &[Vec<u8>]) {

@@ -66,32 +66,27 @@ fn chosen(cases: Vec<Case>) -> Vec<Case> {
 const HEAD: &str = "-- What the definitions give for generated files is what the second reader gives, computed. Written by outside/src/bin/theorems.rs.
 -- Assumes nothing.
 use Prim.Native.Nat.{ℕ}
-use mathlib.Core.Path.{_≡_, refl}
-use mathlib.Core.List.{List, [], _∷_}
+use mathlib.Core.Path.{◌≡◌, refl}
+use mathlib.Core.List.{List, [], ◌∷◌}
 use lib.ListN.{replicate}
 use lib.Ieee as Ieee
 use lib.Ieee.{Float, binary64}
-use Rattle·paper·specs.specs.Outcome.{verdict}
-use Rattle·paper·specs.specs.Pieces.{part}
-use Rattle·paper·specs.specs.Judge.{readingList}
-use Rattle·paper·specs.specs.Calls.{judgedOf, rowsOf, rowsLeft, citedOf, textOf, readBack}
-use Rattle·paper·specs.specs.Block.{blockOf, blockLeft}
-use Rattle·paper·proofs.proofs.Computed.{computed}
-use Rattle·paper·specs.specs.declared.Judged.{Judged}
-use Rattle·paper·specs.specs.declared.Corners.{Corners}
-use Rattle·paper·specs.specs.declared.Counted.{Counted}
-use Rattle·paper·specs.specs.declared.Cited.{Cited}
-use Rattle·paper·specs.specs.declared.Text.{Text}
-use Rattle·paper·specs.specs.declared.Block.{Block}
-use Rattle·paper·specs.specs.declared.Row.{Row}
-use Rattle·paper·specs.specs.declared.Georeference.the-variants.{Scaled, Affine}
+use Rattle.paper.specs.Outcome.{verdict}
+use Rattle.paper.specs.Pieces.{part}
+use Rattle.paper.specs.Judge.{reading_list}
+use Rattle.paper.specs.Calls.{judged_of, rows_of, left_rows, cited_of, text_of, reading_back}
+use Rattle.paper.specs.Block.{block_of, block_left}
+use Rattle.paper.proofs.Computed.{computed}
+use Rattle.paper.specs.declared.Corners.{Corners}
+use Rattle.paper.specs.declared.Row.{Row}
+use Rattle.paper.specs.declared.Georeference.TheVariants.{Scaled, Affine}
 
 row : ℕ → ℕ → ℕ → ℕ → ℕ → Row
 row k n f l e = record { key = k; kind = n; first = f; len = l; entry = e }
 
 double : ℕ → Float
-unfolding Ieee.ofBits Ieee.ofFields Ieee.odd
-double b = Ieee.ofBits binary64 b
+unfolding Ieee.of_bits Ieee.of_fields Ieee.odd
+double b = Ieee.of_bits binary64 b
 
 four : ℕ → ℕ → ℕ → ℕ → Corners
 unfolding double
@@ -123,7 +118,7 @@ impl Page {
                     "record {{ verdict = {}; keys = {keys}; minor = {minor} }}",
                     number(verdict)
                 );
-                self.theorem(&format!("readBack {}", runs.join(" ")), &answer, &why);
+                self.theorem(&format!("reading_back {}", runs.join(" ")), &answer, &why);
             }
         }
     }
@@ -133,11 +128,11 @@ impl Page {
     fn file(&mut self, file: &[u8], why: &str) {
         let judged = judge(file);
         let name = self.named(file, why);
-        self.theorem(&format!("judgedOf {name}"), &judgement(&judged), "");
+        self.theorem(&format!("judged_of {name}"), &judgement(&judged), "");
         let parts = reading_list(file).into_iter();
         let parts =
             parts.map(|range| format!("part {} {} ∷ ", range.start, range.end - range.start));
-        self.theorem(&format!("readingList {name}"), &(parts.collect::<String>() + "[]"), "");
+        self.theorem(&format!("reading_list {name}"), &(parts.collect::<String>() + "[]"), "");
         self.text_of(file, &name, u32::MAX);
         if judged.verdict.number == 0 {
             self.more(file, &name, judged.keys as usize);
@@ -168,13 +163,13 @@ impl Page {
         let blank = Row::of([9; 5]);
         let mut rows = vec![blank; lent];
         let (verdict, keys) = key_rows(file, &mut rows);
-        self.theorem(&format!("rowsOf {name} {lent}"), &counted(verdict, keys), "");
+        self.theorem(&format!("rows_of {name} {lent}"), &counted(verdict, keys), "");
         let mut list = String::new();
         for row in &rows {
             let _ = write!(list, "row {row} ∷ ");
         }
         self.theorem(
-            &format!("rowsLeft {name} (replicate {lent} (row {blank}))"),
+            &format!("left_rows {name} (replicate {lent} (row {blank}))"),
             &(list + "[]"),
             "",
         );
@@ -183,7 +178,7 @@ impl Page {
     /// The text of that number, with an outside text of five bytes.
     fn text_of(&mut self, file: &[u8], name: &str, number: u32) {
         let answer = text(&metadata(file, &[7; 5], number));
-        self.theorem(&format!("textOf {name} {number} 5"), &answer, "");
+        self.theorem(&format!("text_of {name} {number} 5"), &answer, "");
     }
 
     fn cited(&mut self, file: &[u8], key: u32, why: &str) {
@@ -195,7 +190,7 @@ impl Page {
         let Cited { verdict, start, length } = citation(file, key);
         let answer =
             format!("record {{ verdict = {}; start = {start}; len = {length} }}", number(verdict));
-        self.theorem(&format!("citedOf {name} {key}"), &answer, "");
+        self.theorem(&format!("cited_of {name} {key}"), &answer, "");
     }
 
     fn block(&mut self, file: &[u8], room: usize, why: &str) {
@@ -211,8 +206,8 @@ impl Page {
             "record {{ verdict = {}; directory = {directory}; doubles = {doubles}; characters = {characters} }}",
             number(verdict)
         );
-        self.theorem(&format!("blockOf {name} {room}"), &answer, "");
-        self.theorem(&format!("blockLeft {name} (replicate {room} 170)"), &bytes(&out), "");
+        self.theorem(&format!("block_of {name} {room}"), &answer, "");
+        self.theorem(&format!("block_left {name} (replicate {room} 170)"), &bytes(&out), "");
     }
 
     /// A file under a name of its own.

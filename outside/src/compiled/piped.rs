@@ -11,8 +11,8 @@ use std::process::{Command, Stdio};
 fn runner() -> std::path::PathBuf {
     let root = Path::new(env!("CARGO_MANIFEST_DIR")).join("..");
     let read = |path: &str| std::fs::read(root.join(path)).ok();
-    let Some(library) = read("target/staticlib/libpetalbuzz.a") else {
-        panic!("target/staticlib/libpetalbuzz.a is missing: run 'rt staticlib petalbuzz'")
+    let Some(library) = read("crates/petalbuzz/out/libpetalbuzz.a") else {
+        panic!("crates/petalbuzz/out/libpetalbuzz.a is missing: run 'rt lib' in crates/petalbuzz")
     };
     if cfg!(target_arch = "x86_64") {
         panic!("the static library came after this was built: run cargo again");
