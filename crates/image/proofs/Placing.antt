@@ -194,7 +194,8 @@ module _ {f : List ℕ} {big : Bool} {at c : ℕ} {t : Bool} {typs counts starts
   Ends = part 0 8 ∷ part at (dir_len c) ∷ []
 
   parts_at : (v : Bool) → v ≡ tiled (held_at table f big at c)
-      → parts_of (outer_of starts (slot_of_offsets v) (slot_of_byte_counts v) 0 at) (outer_of lens (slot_of_offsets v) (slot_of_byte_counts v) 8 (dir_len c)) 12 ≡ parts_of starts lens Index.many ++ keep wide Ends
+      → parts_of (outer_of starts (slot_of_offsets v) (slot_of_byte_counts v) 0 at) (outer_of lens (slot_of_offsets v) (slot_of_byte_counts v) 8 (dir_len c)) 12
+      ≡ parts_of starts lens Index.many ++ keep wide Ends
   unfolding parts_of part_at build outer_of line_at tag_at table size_of slot_of_offsets slot_of_byte_counts all keep chosen
   parts_at v e = go v e told.no_offsets told.no_byte_counts
     where
@@ -232,7 +233,8 @@ module _ {f : List ℕ} {big : Bool} {at c : ℕ} {t : Bool} {typs counts starts
 
       go : (v : Bool) → v ≡ tiled (held_at table f big at c) → get_or lens (slot_of_offsets (not (tiled (held_at table f big at c)))) 0 ≡ 0
           → get_or lens (slot_of_byte_counts (not (tiled (held_at table f big at c)))) 0 ≡ 0
-          → parts_of (outer_of starts (slot_of_offsets v) (slot_of_byte_counts v) 0 at) (outer_of lens (slot_of_offsets v) (slot_of_byte_counts v) 8 (dir_len c)) 12 ≡ parts_of starts lens Index.many ++ keep wide Ends
+          → parts_of (outer_of starts (slot_of_offsets v) (slot_of_byte_counts v) 0 at) (outer_of lens (slot_of_offsets v) (slot_of_byte_counts v) 8 (dir_len c)) 12
+          ≡ parts_of starts lens Index.many ++ keep wide Ends
       go true e x y =
           joined (keep (chosen Index.tile_offsets Index.tile_byte_counts) (build (λ k. k) 0 Index.many))
           (kept-chosen Reach (chosen Index.tile_offsets Index.tile_byte_counts) (build (λ k. k) 0 Index.many)

@@ -87,7 +87,12 @@ unfound (x ∷ xs) k q = go (eqb x.key k) refl (unfound xs k)
 
 unlisted : (k : ℕ) → is_in k (keys_of known_keys) ≡ false → kind_listed k ≡ other_kind
 unfolding kind_listed short_keys double_keys ascii_keys build known_keys is_in some all
-unlisted k q = rw (none (λ j. is_in j (keys_of known_keys)) short_keys k refl q, none (λ j. is_in j (keys_of known_keys)) double_keys k refl q, none (λ j. is_in j (keys_of known_keys)) ascii_keys k refl q)
+unlisted k q =
+    rw (
+      none (λ j. is_in j (keys_of known_keys)) short_keys k refl q,
+      none (λ j. is_in j (keys_of known_keys)) double_keys k refl q,
+      none (λ j. is_in j (keys_of known_keys)) ascii_keys k refl q,
+    )
 
 -- every key has the kind of the list that it stands in, and kind 3 where it stands in none
 pub kinds : (k : ℕ) → kind_of k ≡ kind_listed k

@@ -1,17 +1,14 @@
 -- A list that is written from the front, one element a turn: after i turns it is the first i of what g gives, and then what stood there.
 -- Assumes nothing.
-use Prim.Native.Nat.{ℕ, zero, suc, ◌+◌, ◌-◌, ◌<◌, ◌≤◌}
+use Prim.Native.Nat.{ℕ, zero, suc, ◌+◌, ◌<◌}
 use native.Mathlib.Nat.{not-suc-le-zero, le_of_suc-le-suc, zero-add}
 use native.Mathlib.Numerals.{add-one}
 use native.Mathlib.Omega.{arith}
 use mathlib.Core.Path.{◌≡◌, refl, sym, ap, subst, ◌∙◌}
 use mathlib.Core.List.{List, [], ◌∷◌, ◌++◌}
-use lib.ListN.{length, set, drop, length-append, length-drop}
+use lib.ListN.{length, set, drop}
 use Rattle.paper.specs.Bytes.{build}
 use Rattle.paper.proofs.Laws.{length-build}
-
-sum_back : (i n : ℕ) → i ≤ n → i + (n - i) ≡ n
-sum_back i n h = omega arith
 
 module _ {X : Type 0} where
   -- one more at the end
@@ -24,13 +21,6 @@ module _ {X : Type 0} where
   pub filled_none : (g : ℕ → X) (ys : List X) → build g 0 0 ++ drop 0 ys ≡ ys
   unfolding build
   filled_none g ys = refl
-
-  pub filled-length : (g : ℕ → X) (i : ℕ) (ys : List X) → i ≤ length ys → length (build g 0 i ++ drop i ys) ≡ length ys
-  filled-length g i ys h =
-      length-append (build g 0 i) (drop i ys)
-      ∙ ap (λ (n : ℕ). n + length (drop i ys)) (length-build g 0 i)
-      ∙ ap (λ (n : ℕ). i + n) (length-drop i ys)
-      ∙ sum_back i (length ys) h
 
   -- a store right behind us
   set_after : (us ds : List X) (d y : X) → set (us ++ (d ∷ ds)) (length us) y ≡ (us ++ (y ∷ [])) ++ ds
