@@ -141,6 +141,7 @@ fn absent_line(lines: &[[u32; WIDE]], starts: &[usize], tiled: bool) -> Outcome
 }
 
 // Rule 9: the lowest needed tag that is absent.
+#[inline(always)]
 pub fn needed_tags(lines: &[[u32; WIDE]], starts: &[usize], tiled: bool) -> Outcome
     requires { length lines.now ≤ length starts.now }
     ensures { result ≡ nine_of lines.now tiled starts.now }
@@ -193,6 +194,7 @@ fn misfit_line(lines: &[[u32; WIDE]], typs: &[u32], counts: &[u32], starts: &[us
 }
 
 // Rule 10 of the first entry of each tag: the lowest tag that is present with another type or count.
+#[inline(always)]
 pub fn fitting_tags(
     lines: &[[u32; WIDE]],
     typs: &[u32],

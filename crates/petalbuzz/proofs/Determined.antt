@@ -63,7 +63,7 @@ c-ground-determined κs a x y s t p q = rw (p.0, p.1.0, p.1.1.0, p.1.1.1.0, p.1.
 
 -- ---- the key rows
 
--- The proofs of these three are walks by hand, for which the checker writes no reading: what a caller learns, read from the contract in the same way.
+-- Of these three, what a caller learns is read here from the contract itself, in the same way.
 abbrev learnt : (P : (w : World) → Pr w) → Read (λ w. emp w.𝓤) no_know P → Type 0
 learnt P r = AllOf r.tells
 

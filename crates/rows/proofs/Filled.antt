@@ -18,10 +18,6 @@ module _ {X : Type 0} where
   build-last g i (suc k) =
       ap (λ (l : List X). g i ∷ l) (build-last g (suc i) k ∙ ap (λ (n : ℕ). build g (suc i) k ++ (g n ∷ [])) (omega arith))
 
-  pub filled_none : (g : ℕ → X) (ys : List X) → build g 0 0 ++ drop 0 ys ≡ ys
-  unfolding build
-  filled_none g ys = refl
-
   -- a store right behind us
   set_after : (us ds : List X) (d y : X) → set (us ++ (d ∷ ds)) (length us) y ≡ (us ++ (y ∷ [])) ++ ds
   set_after [] ds d y = refl

@@ -1,13 +1,15 @@
 -- `fill` meets its contract by the laws of a list that is written from the front. Assumes nothing.
-use Rattle.std.proofs.Common.{zero-le, arith, sym, ap, List, slice_set, ◌∙◌}
+use Rattle.std.proofs.Common.{refl, zero-le, arith, ap, List, slice_set, ◌∙◌}
+use Rattle.paper.specs.Bytes.{build}
 use Rattle.paper.specs.Judge.{view}
 use Rattle.paper.specs.Calls.{row_at}
 use Rattle.paper.specs.declared.Row.{Row}
-use Rattle.rows.proofs.Filled.{filled_none, filled_more}
+use Rattle.rows.proofs.Filled.{filled_more}
 use Rattle.rows.proofs.fill.Goals as goal
 
 pub loop-i-init : goal.loop-i-init
-loop-i-init c = (zero-le, sym (filled_none (row_at (view c.args.file.now)) c.args.rows.now))
+unfolding build
+loop-i-init c = (zero-le, refl)
 
 pub loop-i-preserved : goal.loop-i-preserved
 loop-i-preserved c = (
