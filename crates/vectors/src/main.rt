@@ -6,7 +6,7 @@ ghost use Rattle.std.specs.Io.KnownBytes.{Appends};
 ghost use Rattle.report.specs.Printed.{answer_of};
 
 use std::fs::File;
-use std::io::{BufWriter, Read, Write};
+use std::io::{Read, Write};
 use std::rt::Files;
 use std::{env, io};
 
@@ -35,9 +35,8 @@ fn judge_one<W: Write>(files: &impl Files, out: &mut W, name: &str) -> io::Resul
 
 // Argument 0 is the program's own name.
 fn main(rt: HostRuntime) -> io::Result<()> {
-    let mut out = BufWriter::new(rt.alloc(), io::writer(&rt))?;
     for name in env::args(&rt)?.skip(1) {
-        judge_one(&rt, &mut out, name.as_str())?;
+        judge_one(&rt, &mut io::writer(&rt), name.as_str())?;
     }
-    out.flush()
+    Ok(())
 }
