@@ -1,17 +1,19 @@
 -- The pass before the writing: one turn of its loop, what it found of rule 24, and that its sums are the lengths of the three parts.
 -- Assumes nothing.
-use Prim.Native.Nat.{ℕ, ◌+◌, ◌-◌, ◌*◌, ◌≤◌, ◌<◌}
+use Prim.Native.Nat.{ℕ, ◌+◌, ◌-◌, ◌≤◌, ◌<◌, zero-le}
+use Rattle.std.specs.Prelude.{Result, Ok, Err}
 use mathlib.Core.Path.{◌≡◌, refl, sym, ap, ap₂, ◌∙◌}
-use mathlib.Core.Bool.{Bool, true, false, not, ◌&&◌}
+use mathlib.Core.Bool.{Bool, true, false, cond, not, ◌&&◌}
 use mathlib.Core.List.{List, [], ◌∷◌}
-use native.Mathlib.Nat.{add-zero, add_assoc, sub-zero}
+use native.Mathlib.Nat.{add-zero, add_assoc}
 use native.Mathlib.Omega.{arith}
 use lib.Dec.{eqb, ltb}
 use lib.ListN.{length, length-append}
 use Rattle.paper.specs.Bytes.{build}
-use Rattle.paper.specs.Outcome.{first_bad}
+use Rattle.paper.specs.Outcome.{first_bad, verdict}
 use Rattle.paper.specs.Keys.{key_at}
 use Rattle.paper.specs.Block.{joined, values_at, count_if_at, new_index, moved, too_far}
+use Rattle.paper.specs.declared.Verdict.{Verdict}
 use Rattle.paper.specs.declared.KeyEntry.{KeyEntry}
 use Rattle.paper.specs.declared.Outcome.{Outcome}
 use Rattle.paper.specs.declared.Outcome.TheVariants.{Kept as kept, Broken as broken}
@@ -20,25 +22,43 @@ use Rattle.paper.proofs.Laws.{build-step}
 use Rattle.paper.proofs.Codec.{length-values}
 use Rattle.keys.specs.Pass.{runs}
 use Rattle.block.specs.Splice.{entries_of}
-use Rattle.block.specs.Sizes.{total, sizes, measured}
-use Rattle.block.specs.declared.Sizes.{Sizes}
+use Rattle.block.specs.Sizes.{total, nothing, next_of, Low, sizes, measured}
+use Rattle.block.specs.declared.Before.{Before}
 
 -- ---- one entry
 
-module _ (a x c : ℕ) (e : KeyEntry) (es : List KeyEntry) where
-  cons-far : not (eqb e.location 0) && ltb 65535 (new_index a x c e) ≡ true
-      → measured a x c (e ∷ es) ≡ record { far = broken e.key; shorts = 0; doubles = 0; characters = 0 }
+-- an entry has no more than its count at a location
+few-at : (l : ℕ) (e : KeyEntry) → count_if_at l e ≤ e.count
+unfolding count_if_at
+few-at l e = pick (eqb e.location l)
+  where
+    pick : (b : Bool) → cond b e.count 0 ≤ e.count
+    pick true = omega arith
+    pick false = zero-le
+
+pub low-first : (k : ℕ) (b : Before) → k ≤ 256 → b ≡ nothing k → Low 0 b
+low-first k b h is = rw is (omega arith, omega arith, omega arith)
+
+pub low-next : (i : ℕ) (b : Before) (e : KeyEntry) (b' : Before) → e.count < 65536 → Low i b → b' ≡ next_of b e → Low (i + 1) b'
+low-next i b e b' c h is =
+    let f : (l : ℕ) → count_if_at l e ≤ 65535 = λ l. omega (arith, few-at l e) in
+    rw is (omega (arith, f Tag.key_directory), omega (arith, f Tag.doubles), omega (arith, f Tag.characters))
+
+module _ (b : Before) (e : KeyEntry) (es : List KeyEntry) where
+  abbrev is-far : Bool
+  is-far = not (eqb e.location 0) && ltb 65535 (new_index b.shorts b.doubles b.characters e)
+
+  cons-far : is-far ≡ true → measured b (e ∷ es) ≡ Err (verdict 24 e.key)
   unfolding measured moved first_bad too_far
   cons-far p = rw p
 
-  cons-near : not (eqb e.location 0) && ltb 65535 (new_index a x c e) ≡ false
-      → measured a x c (e ∷ es) ≡ measured (a + count_if_at Tag.key_directory e) (x + count_if_at Tag.doubles e) (c + count_if_at Tag.characters e) es
+  cons-near : is-far ≡ false → measured b (e ∷ es) ≡ measured (next_of b e) es
   unfolding measured moved first_bad too_far total
   cons-near p = rw (p, add_assoc, add_assoc, add_assoc)
 
-none_left : (a x c : ℕ) → measured a x c [] ≡ record { far = kept; shorts = a; doubles = x; characters = c }
+none_left : (b : Before) → measured b [] ≡ Ok b
 unfolding measured moved first_bad total
-none_left a x c = rw (add-zero, add-zero, add-zero)
+none_left b = rw (add-zero, add-zero, add-zero)
 
 -- ---- the loop
 
@@ -46,60 +66,62 @@ module _ (directory : List ℕ) (big : Bool) (n : ℕ) where
   abbrev entry : ℕ → KeyEntry
   entry = key_at (runs big directory [] [])
 
-  -- what is found from entry i on, with so many elements before
-  abbrev pub found_from : ℕ → ℕ → ℕ → ℕ → Sizes
-  found_from a x c i = measured a x c (build entry i (n - i))
+  -- what is found from entry i on, with b before
+  abbrev pub found_from : Before → ℕ → Result Before Verdict
+  found_from b i = measured b (build entry i (n - i))
 
-  abbrev pub all_found : Sizes
-  all_found = measured (4 + 4 * n) 0 0 (entries_of big directory n)
+  abbrev pub all_found : Result Before Verdict
+  all_found = measured (nothing n) (entries_of big directory n)
 
-  pub found-begin : found_from (4 + 4 * n) 0 0 0 ≡ all_found
-  found-begin = rw sub-zero
+  module _ (b : Before) (i : ℕ) (state : found_from b i ≡ all_found) where
+    module _ (h : i < n) (e : KeyEntry) (is-e : e ≡ entry i) (index : ℕ) (is-i : index ≡ new_index b.shorts b.doubles b.characters e) (far : Bool)
+        (is_far : far ≡ not (eqb e.location 0) && ltb 65535 index) where
+      test : is-far b e (build entry (i + 1) (n - (i + 1))) ≡ far
+      test = sym (is_far ∙ ap (λ (k : ℕ). not (eqb e.location 0) && ltb 65535 k) is-i)
 
-  module _ (a x c i : ℕ) (state : found_from a x c i ≡ all_found) where
-    module _ (h : i < n) (e : KeyEntry) (is-e : e ≡ entry i) (index : ℕ) (is-i : index ≡ new_index a x c e) (far : Bool)
-        (is-far : far ≡ not (eqb e.location 0) && ltb 65535 index) where
-      test : not (eqb e.location 0) && ltb 65535 (new_index a x c e) ≡ far
-      test = sym (is-far ∙ ap (λ (k : ℕ). not (eqb e.location 0) && ltb 65535 k) is-i)
-
-      opened : all_found ≡ measured a x c (e ∷ build entry (i + 1) (n - (i + 1)))
+      opened : all_found ≡ measured b (e ∷ build entry (i + 1) (n - (i + 1)))
       opened =
-          sym state ∙ ap (measured a x c) (build-step entry i n h)
-          ∙ ap (λ (y : KeyEntry). measured a x c (y ∷ build entry (i + 1) (n - (i + 1)))) (sym is-e)
+          sym state ∙ ap (measured b) (build-step entry i n h)
+          ∙ ap (λ (y : KeyEntry). measured b (y ∷ build entry (i + 1) (n - (i + 1)))) (sym is-e)
 
-      pub found-far : far ≡ true → record { far = broken e.key; shorts = 0; doubles = 0; characters = 0 } ≡ all_found
-      found-far t = sym (opened ∙ cons-far a x c e (build entry (i + 1) (n - (i + 1))) (test ∙ t))
+      pub found-far : far ≡ true → Err (verdict 24 e.key) ≡ all_found
+      found-far t = sym (opened ∙ cons-far b e (build entry (i + 1) (n - (i + 1))) (test ∙ t))
 
-      pub found_turn : far ≡ false → (p q r : ℕ) → p ≡ count_if_at Tag.key_directory e → q ≡ count_if_at Tag.doubles e → r ≡ count_if_at Tag.characters e
-          → found_from (a + p) (x + q) (c + r) (i + 1) ≡ all_found
-      found_turn t p q r is-p is-q is-r =
-          (λ j. measured (a + is-p j) (x + is-q j) (c + is-r j) (build entry (i + 1) (n - (i + 1))))
-          ∙ sym (opened ∙ cons-near a x c e (build entry (i + 1) (n - (i + 1))) (test ∙ t))
+      pub found_turn : far ≡ false → (b' : Before) → b' ≡ next_of b e → found_from b' (i + 1) ≡ all_found
+      found_turn t b' is_b =
+          ap (λ (x : Before). found_from x (i + 1)) is_b
+          ∙ sym (opened ∙ cons-near b e (build entry (i + 1) (n - (i + 1))) (test ∙ t))
 
-    pub found-end : n ≤ i → record { far = kept; shorts = a; doubles = x; characters = c } ≡ all_found
+    pub found-end : n ≤ i → Ok b ≡ all_found
     unfolding build
     found-end h =
         let z : n - i ≡ 0 = omega arith in
-        let s : measured a x c [] ≡ all_found = rw z at state in
-        sym (none_left a x c) ∙ s
+        let s : measured b [] ≡ all_found = rw z at state in
+        sym (none_left b) ∙ s
 
 -- ---- what was found
 
-sizes-far : (o : Outcome) (a x c : ℕ) → (sizes o a x c).far ≡ o
-sizes-far kept a x c = refl
-sizes-far (broken p) a x c = refl
+broken-told : (o : Outcome) (b : Before) (v : Verdict) → Err v ≡ sizes o b → (p : ℕ) × (o ≡ broken p) × (v ≡ verdict 24 p)
+broken-told kept b v h = (0, cc, cc)
+broken-told (broken p) b v h = (p, refl, cc)
 
--- rule 24
-pub far-is : (a x c : ℕ) (es : List KeyEntry) → (measured a x c es).far ≡ first_bad too_far (λ e. e.key) (moved a x c es)
-unfolding measured
-far-is a x c es = sizes-far (first_bad too_far (λ e. e.key) (moved a x c es)) _ _ _
+kept-told : (o : Outcome) (b s : Before) → Ok s ≡ sizes o b → (o ≡ kept) × (s ≡ b)
+kept-told kept b s h = (refl, cc)
+kept-told (broken q) b s h = (cc, cc)
 
--- the three sums, where it is kept
-pub sums-are : (a x c : ℕ) (es : List KeyEntry) → (measured a x c es).far ≡ kept
-    → measured a x c es ≡ record { far = kept; shorts = a + total Tag.key_directory es; doubles = x + total Tag.doubles es; characters = c + total Tag.characters es }
-unfolding measured
-sums-are a x c es h =
-    ap (λ (o : Outcome). sizes o (a + total Tag.key_directory es) (x + total Tag.doubles es) (c + total Tag.characters es)) (sym (far-is a x c es) ∙ h)
+module _ (b : Before) (es : List KeyEntry) where
+  -- rule 24, where it is broken
+  pub far-is : (v : Verdict) → Err v ≡ measured b es
+      → (p : ℕ) × (first_bad too_far (λ e. e.key) (moved b.shorts b.doubles b.characters es) ≡ broken p) × (v ≡ verdict 24 p)
+  unfolding measured
+  far-is v h = broken-told _ _ v h
+
+  -- and where it is kept, with the three sums
+  pub sums-are : (s : Before) → Ok s ≡ measured b es
+      → (first_bad too_far (λ e. e.key) (moved b.shorts b.doubles b.characters es) ≡ kept)
+      × (s ≡ record { shorts = b.shorts + total Tag.key_directory es; doubles = b.doubles + total Tag.doubles es; characters = b.characters + total Tag.characters es })
+  unfolding measured
+  sums-are s h = kept-told _ _ s h
 
 -- they count the values
 pub length-joined : (big : Bool) (l w : ℕ) (s : List ℕ) (es : List KeyEntry) → length (joined (values_at big l w s) es) ≡ total l es

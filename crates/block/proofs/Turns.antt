@@ -1,54 +1,58 @@
 -- One turn of each loop that writes: the bytes of a number, the elements of a value, the values of the entries at a location, and the entries
 -- with their new indexes. Assumes nothing.
-use Prim.Native.Nat.{ℕ, suc, ◌+◌, ◌-◌, ◌*◌, ◌/◌, ◌%◌, ◌≤◌, ◌<◌}
+use Prim.Native.Nat.{ℕ, zero, suc, ◌+◌, ◌-◌, ◌*◌, ◌/◌, ◌%◌, ◌^◌, ◌≤◌, ◌<◌}
 use mathlib.Core.Path.{◌≡◌, refl, sym, ap, ◌∙◌, subst}
 use mathlib.Core.Bool.{Bool, true, false}
 use mathlib.Core.List.{List, [], ◌∷◌, ◌++◌, append_assoc}
 use mathlib.Core.Logic.{inl, inr}
-use native.Mathlib.Nat.{add-zero, sub-zero, mul-suc, mul-zero, mul-le-mul_left}
+use native.Mathlib.Nat.{not-suc-le-zero, le_of_suc-le-suc, div-div-eq-div-mul, div-one, pow-suc, sub-zero, mul-suc, mul-zero, mul-le-mul_left}
 use native.Mathlib.Numerals.{add-one}
 use native.Mathlib.Omega.{arith}
-use lib.ListN.{length, drop, set, get_or, length-append}
+use lib.ListN.{length, take, drop, get_or, length-append}
 use borrow.Author.Tests.{eq-eqb, ne_eqb}
+use borrow.Rule.Slice.PartMut.{put_mid}
+use Rattle.std.specs.Int.{byte_at, bytes_low_first}
 use Rattle.paper.specs.Bytes.{num, enc, build, elems}
 use Rattle.paper.specs.Keys.{key_at}
 use Rattle.paper.specs.Block.{joined, encs, elements, values_at, count_if_at, new_index, with_index, moved, entry_numbers}
 use Rattle.paper.specs.declared.KeyEntry.{KeyEntry}
-use Rattle.paper.specs.Tag
 use Rattle.paper.proofs.Laws.{length-enc, build-step, length-build}
 use Rattle.paper.proofs.Codec.{length-encs, num-drop, length_elems, length-values, length_moved}
 use Rattle.keys.specs.Pass.{runs}
 use Rattle.block.specs.Splice.{splice, Wide, entries_of, entry_bytes, value_bytes}
-use Rattle.block.proofs.Writing.{Writing, begin, told, lay, end, store, splice-nil}
+use Rattle.block.specs.Sizes.{nothing, next_of}
+use Rattle.block.specs.declared.Before.{Before}
+use Rattle.block.proofs.Writing.{Writing, begin, told, lay, end, written-over, splice-nil}
 
 -- ---- the bytes of a number
 
-pub bytes-begin : (d : List ℕ) (at w v : ℕ) → at + w ≤ length d → Writing d at (enc w v) d (at + 0) (enc (w - 0) v)
-bytes-begin d at w v h = rw (add-zero, sub-zero) (begin d at (enc w v) (omega (arith, length-enc w v)))
+-- w of the k bytes from byte i on
+low_bytes : (i k w n : ℕ) → w ≤ k → take w (bytes_low_first i k n) ≡ enc w (n / 256 ^ i)
+unfolding enc
+low_bytes i k zero n h = refl
+low_bytes i zero (suc w) n h = absurd (not-suc-le-zero h)
+low_bytes i (suc k) (suc w) n h = λ j. byte i j ∷ (low_bytes (suc i) k w n (le_of_suc-le-suc h) ∙ ap (enc w) (next i)) j
+  where
+    byte : (m : ℕ) → byte_at m n ≡ n / 256 ^ m % 256
+    byte zero = ap (λ (x : ℕ). x % 256) (sym (div-one n))
+    byte (suc m) = refl
 
-module _ (d : List ℕ) (at : ℕ) (all out : List ℕ) (w j v : ℕ) (s : Writing d at all out (at + j) (enc (w - j) v)) where
-  pub bytes-turn : j < w → Writing d at all (set out (at + j) (v % 256)) (at + (j + 1)) (enc (w - (j + 1)) (v / 256))
-  unfolding enc
-  bytes-turn h =
-      let e : w - j ≡ suc (w - (j + 1)) = omega arith in
-      let l : length (enc (w - j) v) ≡ w - j = length-enc (w - j) v in
-      let t : Writing d at all out (at + j) ((v % 256 ∷ []) ++ enc (w - (j + 1)) (v / 256)) = rw e at s in
-      lay d at all out (at + j) (v % 256 ∷ []) (enc (w - (j + 1)) (v / 256)) t (set out (at + j) (v % 256)) (at + (j + 1))
-      (store out (at + j) (v % 256) (omega (arith, s.long, s.fits))) (omega arith)
+    next : (m : ℕ) → n / 256 ^ suc m ≡ n / 256 ^ m / 256
+    next m = ap (λ (p : ℕ). n / p) (pow-suc 256 m) ∙ sym (div-div-eq-div-mul n (256 ^ m) 256)
 
-  pub bytes-end : w ≤ j → out ≡ splice d at all
-  unfolding enc
-  bytes-end h =
-      let e : w - j ≡ 0 = omega arith in
-      end d at all out (at + j) (rw e at s)
+pub bytes-laid : (d : List ℕ) (at w v : ℕ) → w ≤ 8 → (out : List ℕ) → out ≡ take w (bytes_low_first 0 8 v)
+    → put_mid at (at + w - at) d out ≡ splice d at (enc w v)
+bytes-laid d at w v h out is =
+    let e : out ≡ enc w v = is ∙ low_bytes 0 8 w v h ∙ ap (enc w) (div-one v) in
+    ap (put_mid at (at + w - at) d) e ∙ written-over d at w (enc w v) (length-enc w v)
 
 -- ---- a number as it is read
 
--- what is no DOUBLE and no SHORT is one byte
-pub one_byte : (w : ℕ) → Wide w → (w ≡ 8 → ⊥) → (w ≡ 2 → ⊥) → w ≡ 1
-one_byte w (inl h) n m = h
-one_byte w (inr (inl h)) n m = absurd (m h)
-one_byte w (inr (inr h)) n m = absurd (n h)
+-- a width is 8 at most
+pub most : (w : ℕ) → Wide w → w ≤ 8
+most w (inl h) = omega arith
+most w (inr (inl h)) = omega arith
+most w (inr (inr h)) = omega arith
 
 pub byte-is : (big : Bool) (w : ℕ) (s : List ℕ) (at b : ℕ) → w ≡ 1 → b ≡ get_or s at 0 → b ≡ num big w s at
 unfolding num
@@ -211,8 +215,9 @@ module _ (directory : List ℕ) (big : Bool) (n : ℕ) where
   abbrev entry_at : ℕ → KeyEntry
   entry_at = key_at (runs big directory [] [])
 
-  abbrev pub entries_from : ℕ → ℕ → ℕ → ℕ → List ℕ
-  entries_from a x c i = encs 2 (joined entry_numbers (moved a x c (build entry_at i (n - i))))
+  -- those from i on, with b before them
+  abbrev pub entries_from : Before → ℕ → List ℕ
+  entries_from b i = encs 2 (joined entry_numbers (moved b.shorts b.doubles b.characters (build entry_at i (n - i))))
 
   pub length-entry_bytes : length (entry_bytes big directory n) ≡ 8 * n
   length-entry_bytes =
@@ -223,47 +228,40 @@ module _ (directory : List ℕ) (big : Bool) (n : ℕ) where
       let e = length-build entry_at 0 n in
       omega arith
 
-  pub entries-begin : (d : List ℕ) (at : ℕ) → at + 8 * n ≤ length d → Writing d at (entry_bytes big directory n) d at (entries_from (4 + 4 * n) 0 0 0)
+  pub entries-begin : (d : List ℕ) (at : ℕ) → at + 8 * n ≤ length d → Writing d at (entry_bytes big directory n) d at (entries_from (nothing n) 0)
   entries-begin d at h = rw sub-zero (begin d at (entry_bytes big directory n) (omega (arith, length-entry_bytes)))
 
-  module _ (d : List ℕ) (at : ℕ) (all out : List ℕ) (o a x c i : ℕ) (state : Writing d at all out o (entries_from a x c i)) where
+  module _ (d : List ℕ) (at : ℕ) (all out : List ℕ) (o : ℕ) (b : Before) (i : ℕ) (state : Writing d at all out o (entries_from b i)) where
+    abbrev index-of : KeyEntry → ℕ
+    index-of = new_index b.shorts b.doubles b.characters
+
     abbrev now-written : List ℕ
-    now-written = encs 2 (entry_numbers (with_index (entry_at i) (new_index a x c (entry_at i))))
+    now-written = encs 2 (entry_numbers (with_index (entry_at i) (index-of (entry_at i))))
 
     abbrev next : List ℕ
-    next = entries_from (a + count_if_at Tag.key_directory (entry_at i)) (x + count_if_at Tag.doubles (entry_at i)) (c + count_if_at Tag.characters (entry_at i)) (i + 1)
+    next = entries_from (next_of b (entry_at i)) (i + 1)
 
     cut : i < n → Writing d at all out o (now-written ++ next)
     unfolding moved joined
     cut h =
-        told d at all out o (entries_from a x c i) _
-        (ap (λ (es : List KeyEntry). encs 2 (joined entry_numbers (moved a x c es))) (build-step entry_at i n h)
-        ∙ encs-append 2 (entry_numbers (with_index (entry_at i) (new_index a x c (entry_at i)))) _)
+        told d at all out o (entries_from b i) _
+        (ap (λ (es : List KeyEntry). encs 2 (joined entry_numbers (moved b.shorts b.doubles b.characters es))) (build-step entry_at i n h)
+        ∙ encs-append 2 (entry_numbers (with_index (entry_at i) (index-of (entry_at i)))) _)
         state
 
     eight : length now-written ≡ 8
     unfolding entry_numbers
-    eight = length-encs 2 (entry_numbers (with_index (entry_at i) (new_index a x c (entry_at i))))
+    eight = length-encs 2 (entry_numbers (with_index (entry_at i) (index-of (entry_at i))))
 
-    pub entry-room : i < n → o + 8 ≤ length out
-    entry-room h =
-        let t = (cut h).fits in
-        let b = length-append now-written next in
-        omega (arith, eight, state.long)
-
-    pub entries-turn : i < n → (e : KeyEntry) → e ≡ entry_at i → (index : ℕ) → index ≡ new_index a x c e → (out' : List ℕ)
-        → out' ≡ splice out o (encs 2 (e.key ∷ e.location ∷ e.count ∷ index ∷ []))
-        → (p q r : ℕ) → p ≡ count_if_at Tag.key_directory e → q ≡ count_if_at Tag.doubles e → r ≡ count_if_at Tag.characters e
-        → Writing d at all out' (o + 8) (entries_from (a + p) (x + q) (c + r) (i + 1))
+    pub entries-turn : i < n → (e : KeyEntry) → e ≡ entry_at i → (index : ℕ) → index ≡ index-of e → (out' : List ℕ)
+        → out' ≡ splice out o (encs 2 (e.key ∷ e.location ∷ e.count ∷ index ∷ [])) → (b' : Before) → b' ≡ next_of b e → (o' : ℕ) → o' ≡ o + 8
+        → Writing d at all out' o' (entries_from b' (i + 1))
     unfolding entry_numbers
-    entries-turn h e is-e index is-i out' is-out p q r is-p is-q is-r =
+    entries-turn h e is-e index is-i out' is-out b' is_b o' is_o =
         let w : out' ≡ splice out o now-written =
-        is-out ∙ (λ j. splice out o (encs 2 ((is-e j).key ∷ (is-e j).location ∷ (is-e j).count ∷ (is-i ∙ ap (new_index a x c) is-e) j ∷ []))) in
-        let p' : count_if_at Tag.key_directory (entry_at i) ≡ p = sym (is-p ∙ ap (count_if_at Tag.key_directory) is-e) in
-        let q' : count_if_at Tag.doubles (entry_at i) ≡ q = sym (is-q ∙ ap (count_if_at Tag.doubles) is-e) in
-        let r' : count_if_at Tag.characters (entry_at i) ≡ r = sym (is-r ∙ ap (count_if_at Tag.characters) is-e) in
-        let t : Writing d at all out' (o + 8) next = lay d at all out o now-written next (cut h) out' (o + 8) w (ap (λ (k : ℕ). o + k) (sym eight)) in
-        told d at all out' (o + 8) next _ (λ j. entries_from (a + p' j) (x + q' j) (c + r' j) (i + 1)) t
+        is-out ∙ (λ j. splice out o (encs 2 ((is-e j).key ∷ (is-e j).location ∷ (is-e j).count ∷ (is-i ∙ ap index-of is-e) j ∷ []))) in
+        let t : Writing d at all out' o' next = lay d at all out o now-written next (cut h) out' o' w (is_o ∙ ap (λ (k : ℕ). o + k) (sym eight)) in
+        told d at all out' o' next _ (ap (λ (x : Before). entries_from x (i + 1)) (sym (is_b ∙ ap (next_of b) is-e))) t
 
     pub entries-end : n ≤ i → out ≡ splice d at all
     unfolding encs joined moved build

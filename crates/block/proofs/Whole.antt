@@ -186,8 +186,6 @@ module _ (big : Bool) (d x c : List ℕ) (m k : ℕ) (ok : Sound (runs big d x c
         shorts-asked =
             record {
               wide = inr (inl refl);
-              few = few;
-              whole = whole;
               lie = shorts-lie;
               fits = room out 0 (block_bytes R) o₂ (8 + 8 * k) Shorts _ at-shorts;
             }
@@ -202,8 +200,6 @@ module _ (big : Bool) (d x c : List ℕ) (m k : ℕ) (ok : Sound (runs big d x c
           doubles-asked =
               record {
                 wide = inr (inr refl);
-                few = few;
-                whole = whole;
                 lie = doubles-lie;
                 fits = room out 0 (block_bytes R) o₃ dn Doubles Characters at-doubles;
               }
@@ -218,8 +214,6 @@ module _ (big : Bool) (d x c : List ℕ) (m k : ℕ) (ok : Sound (runs big d x c
             characters-asked =
                 record {
                   wide = inl refl;
-                  few = few;
-                  whole = whole;
                   lie = characters-lie;
                   fits = room-last out 0 (block_bytes R) o₄ (dn + xn) Characters at-characters;
                 }

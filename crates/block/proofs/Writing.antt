@@ -1,12 +1,13 @@
 -- A writer that lays bytes one behind the other. Its state is an equation: to lay what is left into what stands there now gives what the whole
 -- gives, laid into what stood there first. So every loop and every row of calls has the same three steps: begin, lay some, end. Assumes nothing.
-use Prim.Native.Nat.{ℕ, ◌+◌, ◌≤◌, ◌<◌}
+use Prim.Native.Nat.{ℕ, ◌+◌, ◌-◌, ◌≤◌}
 use mathlib.Core.Path.{◌≡◌, refl, sym, ap, ◌∙◌, subst}
-use mathlib.Core.List.{List, [], ◌∷◌, ◌++◌, append_assoc, append-nil}
+use mathlib.Core.List.{List, [], ◌++◌, append_assoc, append-nil}
 use native.Mathlib.Nat.{add-zero, zero-add}
 use native.Mathlib.Omega.{arith}
-use lib.ListN.{length, take, drop, set, length-append, length-drop, take-append-drop}
-use lib.Seq.{sets-eq, length-take-le, take_at, drop_at, drop-drop}
+use lib.ListN.{length, take, drop, length-append, length-drop, take-append-drop}
+use lib.Seq.{length-take-le, take_at, drop_at, drop-drop}
+use borrow.Rule.Slice.PartMut.{put_mid, Post-is}
 use Rattle.block.specs.Splice.{splice}
 
 -- nothing laid in
@@ -37,10 +38,12 @@ splice-splice d at w v h =
     ∙ ap (λ (x : List ℕ). x ++ drop (n + length v) d) (append_assoc (take at d) w v)
     ∙ ap (λ (k : ℕ). take at d ++ (w ++ v) ++ drop k d) end
 
--- the store of one byte
-pub store : (d : List ℕ) (at b : ℕ) → at < length d → set d at b ≡ splice d at (b ∷ [])
+-- a part that is written over
+pub written-over : (d : List ℕ) (at k : ℕ) (w : List ℕ) → length w ≡ k → put_mid at (at + k - at) d w ≡ splice d at w
 unfolding splice
-store d at b h = sets-eq (b ∷ []) d at (omega arith)
+written-over d at k w h =
+    ap (λ (r : List ℕ). take at d ++ (w ++ r)) (Post-is at (at + k) d (omega arith) ∙ ap (λ (n : ℕ). drop (at + n) d) (sym h))
+    ∙ sym (append_assoc (take at d) w (drop (at + length w) d))
 
 -- laid in from the start: the bytes, and what was behind them
 pub splice_front : (d w : List ℕ) → splice d 0 w ≡ w ++ drop (length w) d

@@ -34,7 +34,5 @@ LiesIn l w s e = e.location ≡ l → w * e.index + w * e.count ≤ length s
 -- what is asked to write the values of the first k entries at location l into n bytes, from index at on
 pub record Values (big : Bool) (d s : List ℕ) (w l k at n : ℕ) : Type 0 where
   pub wide : Wide w
-  pub few : k ≤ 256
-  pub whole : 8 + 8 * k ≤ length d
   pub lie : (i : ℕ) → i < k → LiesIn l w s (key_at (runs big d [] []) i)
   pub fits : at + length (value_bytes big w l s d k) ≤ n

@@ -3,251 +3,135 @@
 // against both lists, and the image's against the mask's. `SLOTS` is of the image's table, `table::SLOTS` of the mask's.
 #![tactic(auto)]
 
-ghost use Rattle.std.specs.Prelude.{◌≡◌, ◌*◌, ◌≤◌, length};
+ghost use Rattle.std.specs.Prelude.{◌≡◌, ◌≤◌, map, length};
+ghost use Rattle.image.specs.Stages.{value_part};
+ghost use Rattle.mask.specs.Masking.{numbered};
 ghost use Rattle.paper.specs.Pieces.{touches};
 ghost use Rattle.paper.specs.Tags.{table, mask_table};
 ghost use Rattle.paper.specs.Tests.{some};
-ghost use Rattle.pieces.specs.Gaps.{Columns, list_of};
-ghost use Rattle.pieces.specs.Spans.{within_of};
+ghost use Rattle.pieces.specs.Reading.{pieces_in};
 ghost use Rattle.tags.specs.Index.{many};
-ghost use Rattle.tags.specs.Tagging.{view_of};
-ghost use Rattle.crossing.specs.Pictures.{mask_many, runs_at, places_in, Image, Mask, pictures_of, Among, Standing, Spanned, Listing, Inside, mask_list, both_lists};
+ghost use Rattle.crossing.specs.Pictures.{mask_many, shown, directory_part, places_in, Image, Mask, pictures_of, Standing, Spanned, Listed, Inside, mask_list, both_lists};
 
-use layout::Further;
+use layout::{Directory, Further};
 use mask::table;
-use paper::Part;
-use pieces::{Placed, Span};
+use paper::{Entry, Part};
+use pieces::{Listing, Places, Span};
 use tags::table::SLOTS;
 
-// The runs that say where the pieces of a picture lie: those of the offsets and of the byte counts as parts of the file, whether each is of LONGs, and how
-// many pieces there are.
+// A picture of a file: its directory, what was found of its table's tags, and the two entries that say where its pieces lie.
 #[derive(Clone, Copy)]
-struct Runs {
-    offsets: Part,
-    bytecounts: Part,
-    wideoffsets: bool,
-    widebytecounts: bool,
-    many: usize,
+pub struct Picture<'a> {
+    pub directory: Directory,
+    pub found: &'a [Entry],
+    pub offsets: Entry,
+    pub bytecounts: Entry,
 }
 
-// Those that slots a and b of a directory's columns name.
-fn runs_of(
-    typs: &[u32],
-    counts: &[u32],
-    starts: &[usize],
-    lens: &[usize],
-    a: usize,
-    b: usize,
-) -> Runs
-    requires { Among a typs.now counts.now starts.now lens.now × Among b typs.now counts.now starts.now lens.now }
-    ensures { result ≡ runs_at typs.now counts.now starts.now lens.now a b }
+// Its pieces.
+fn places<'a>(file: &'a [u8], p: &Picture) -> Places<'a>
+    requires { Standing file.now p.now.offsets p.now.bytecounts }
+    ensures { pieces_in result ≡ places_in file.now p.now }
 {
-    let many = lines::counted(counts[a]);
-    Runs {
-        offsets: Part {
-            start: starts[a],
-            len: lens[a],
-        },
-        bytecounts: Part {
-            start: starts[b],
-            len: lens[b],
-        },
-        wideoffsets: typs[a] == lines::LONG,
-        widebytecounts: typs[b] == lines::LONG,
-        many,
+    let offsets = p.offsets;
+    let bytecounts = p.bytecounts;
+    Places {
+        offsets: layout::value(file, offsets.start, offsets.len),
+        wideoffsets: offsets.typ == lines::LONG,
+        bytecounts: layout::value(file, bytecounts.start, bytecounts.len),
+        widebytecounts: bytecounts.typ == lines::LONG,
+        big: p.directory.big,
+        many: offsets.count,
     }
 }
 
-// Rule 13 of the places that such runs name, and their span where it is kept.
-fn within(file: &[u8], big: bool, p: Runs) -> Placed
-    requires { Standing file.now p × (8 ≤ length file.now) × (length file.now ≤ 4294967295) }
-    ensures { result ≡ within_of (length file.now) (places_in file.now big p) }
+// The part of the whole directory.
+fn directory_part(d: Directory) -> Part
+    requires { d.count ≤ 1024 }
+    ensures { result ≡ directory_part d }
 {
-    let o = p.offsets;
-    let b = p.bytecounts;
-    let offsets = layout::value(file, o.start, o.len);
-    let bytecounts = layout::value(file, b.start, b.len);
-    pieces::judge_within(
-        offsets,
-        p.wideoffsets,
-        bytecounts,
-        p.widebytecounts,
-        big,
-        p.many,
-        file.len(),
-    )
+    Part {
+        start: d.at,
+        len: 2 + 12 * d.count + 4,
+    }
 }
 
-// Whether one of these places shares a byte with a part of three pairs of columns, or with one that `more` further entries of type BYTE name.
-fn crosses_all(
-    file: &[u8],
-    big: bool,
-    p: Runs,
-    span: Span,
-    further: &[u8],
-    more: usize,
-    starts: &[usize],
-    lens: &[usize],
-    m: usize,
-    starts2: &[usize],
-    lens2: &[usize],
-    m2: usize,
-    ends: &[usize],
-    sizes: &[usize],
-    m3: usize,
-) -> bool
-    requires { Standing file.now p × Spanned (length file.now) (places_in file.now big p) span × (12 * more ≤ length further.now) × Columns starts.now lens.now m × Columns starts2.now lens2.now m2 × Columns ends.now sizes.now m3 }
-    ensures { result ≡ some (touches (list_of big further.now more starts.now lens.now m starts2.now lens2.now m2 ends.now sizes.now m3)) (places_in file.now big p) }
+// Writes where the values of entries stand.
+fn put_parts(parts: &mut [Part], found: &[Entry])
+    requires { length parts.old ≡ length found.now }
+    ensures { parts.new ≡ map value_part found.now }
 {
-    let o = p.offsets;
-    let b = p.bytecounts;
-    let offsets = layout::value(file, o.start, o.len);
-    let bytecounts = layout::value(file, b.start, b.len);
-    pieces::clashes_all(
-        offsets,
-        p.wideoffsets,
-        bytecounts,
-        p.widebytecounts,
-        p.many,
-        file.len(),
-        span,
-        further,
-        big,
-        more,
-        starts,
-        lens,
-        m,
-        starts2,
-        lens2,
-        m2,
-        ends,
-        sizes,
-        m3,
-    )
+    for (i, e) in found.iter().enumerate() {
+        parts[i] = Part {
+            start: e.start,
+            len: e.len,
+        };
+    }
 }
+
+// How many parts the mask's list has: those of its table's tags and the directory. And both lists, which have the head and the image's too.
+const OWN: usize = table::SLOTS + 1;
+
+const BOTH: usize = SLOTS + table::SLOTS + 3;
 
 // Whether the mask's picture shares a byte with either list.
-fn mask_crosses(
-    file: &[u8],
-    big: bool,
-    at: usize,
-    c: usize,
-    istarts: &[usize],
-    ilens: &[usize],
-    further: Further,
-    mat: usize,
-    mc: usize,
-    starts: &[usize],
-    lens: &[usize],
-    p: Runs,
-    span: Span,
-) -> bool
-    requires { Standing file.now p × Spanned (length file.now) (places_in file.now big p) span × Listing many at c istarts.now ilens.now × Inside file.now further × Listing mask_many mat mc starts.now lens.now }
-    ensures { result ≡ some (touches (both_lists file.now big at c istarts.now ilens.now further mat mc starts.now lens.now)) (places_in file.now big p) }
+fn mask_crosses(file: &[u8], image: &Picture, further: Further, mask: &Picture, span: Span) -> bool
+    requires { Standing file.now mask.now.offsets mask.now.bytecounts × Spanned (length file.now) (places_in file.now mask.now) span × Listed many image.now × Inside file.now further × Listed mask_many mask.now }
+    ensures { result ≡ some (touches (both_lists file.now image.now further mask.now)) (places_in file.now mask.now) }
 {
-    let more = further.many;
-    let later = layout::value(file, further.start, 12 * more);
-    let ends = [0, at, mat];
-    let sizes = [8, 2 + 12 * c + 4, 2 + 12 * mc + 4];
-    crosses_all(
-        file,
-        big,
-        p,
-        span,
-        later,
-        more,
-        istarts,
-        ilens,
-        SLOTS,
-        starts,
-        lens,
-        table::SLOTS,
-        &ends,
-        &sizes,
-        3,
-    )
+    let mut parts = [Part { start: 0, len: 8 }; BOTH];
+    parts[SLOTS + 1] = directory_part(image.directory);
+    parts[SLOTS + 2] = directory_part(mask.directory);
+    put_parts(&mut parts[SLOTS + 3..], mask.found);
+    put_parts(&mut parts[..SLOTS], image.found);
+    let list = Listing {
+        further: layout::value(file, further.start, 12 * further.many),
+        big: image.directory.big,
+        many: further.many,
+        parts: &parts,
+    };
+    pieces::clashes_all(&places(file, mask), file.len(), span, &list)
 }
 
 // Whether the image's picture shares a byte with the mask's list.
-fn image_crosses(
-    file: &[u8],
-    big: bool,
-    mat: usize,
-    mc: usize,
-    mstarts: &[usize],
-    mlens: &[usize],
-    p: Runs,
-    span: Span,
-) -> bool
-    requires { Standing file.now p × Spanned (length file.now) (places_in file.now big p) span × Listing mask_many mat mc mstarts.now mlens.now }
-    ensures { result ≡ some (touches (mask_list mat mc mstarts.now mlens.now)) (places_in file.now big p) }
+fn image_crosses(file: &[u8], image: &Picture, span: Span, mask: &Picture) -> bool
+    requires { Standing file.now image.now.offsets image.now.bytecounts × Spanned (length file.now) (places_in file.now image.now) span × Listed mask_many mask.now }
+    ensures { result ≡ some (touches (mask_list mask.now)) (places_in file.now image.now) }
 {
-    let none = layout::value(file, 0, 0);
-    let ends = [mat];
-    let sizes = [2 + 12 * mc + 4];
-    crosses_all(
-        file,
-        big,
-        p,
-        span,
-        none,
-        0,
-        mstarts,
-        mlens,
-        table::SLOTS,
-        mstarts,
-        mlens,
-        0,
-        &ends,
-        &sizes,
-        1,
-    )
+    let mut parts = [directory_part(mask.directory); OWN];
+    put_parts(&mut parts[1..], mask.found);
+    let list = Listing {
+        further: layout::value(file, 0, 0),
+        big: mask.directory.big,
+        many: 0,
+        parts: &parts,
+    };
+    pieces::clashes_all(&places(file, image), file.len(), span, &list)
 }
 
-// Rules 13 and 14 of a mask: the first that is broken, 0 where both are kept. The image's directory of c entries stands at `at` and has the columns i.., the
-// mask's of mc entries at `mat` and has the others; ia, ib, ma and mb are the slots of the offsets and byte counts of the pieces, and `span` is that of the
-// image's. The mask's table is for an image of that width and length.
+// Rules 13 and 14 of a mask, or the number of the first that is broken. `further` are the further entries of the image's directory, and `span` is that of
+// the image's pieces. The mask's table is for an image of that width and length, which the clauses alone name.
 pub fn judge_pictures(
     file: &[u8],
-    big: bool,
-    at: usize,
-    c: usize,
-    ia: usize,
-    ib: usize,
-    ityps: &[u32; SLOTS],
-    icounts: &[u32; SLOTS],
-    istarts: &[usize; SLOTS],
-    ilens: &[usize; SLOTS],
+    image: &Picture,
     further: Further,
     span: Span,
-    mat: usize,
-    mc: usize,
-    ma: usize,
-    mb: usize,
-    typs: &[u32; table::SLOTS],
-    counts: &[u32; table::SLOTS],
-    starts: &[usize; table::SLOTS],
-    lens: &[usize; table::SLOTS],
+    mask: &Picture,
     width: u32,
     length: u32,
-) -> u32
-    requires { Image file.now big at c ia ib ityps.now icounts.now istarts.now ilens.now further span × Mask file.now big mat mc ma mb typs.now counts.now starts.now lens.now width length }
-    ensures { result ≡ (pictures_of file.now (view_of table file.now big at c) (view_of (mask_table width length) file.now big mat mc)).number }
+) -> Result<(), u32>
+    requires { Image file.now image.now further span × Mask file.now mask.now width length }
+    ensures { result ≡ numbered (pictures_of file.now (shown table file.now image.now) (shown (mask_table width length) file.now mask.now)) tt }
 {
-    let m = runs_of(typs, counts, starts, lens, ma, mb);
-    let p = within(file, big, m);
-    if p.verdict.number != 0 {
-        return 13;
+    let reach = match pieces::judge_within(&places(file, mask), file.len()) {
+        Ok(span) => span,
+        Err(v) => return Err(v.number),
+    };
+    if mask_crosses(file, image, further, mask, reach) {
+        return Err(14);
     }
-    let reach = p.span;
-    if mask_crosses(
-        file, big, at, c, istarts, ilens, further, mat, mc, starts, lens, m, reach,
-    ) {
-        return 14;
+    if image_crosses(file, image, span, mask) {
+        return Err(14);
     }
-    let i = runs_of(ityps, icounts, istarts, ilens, ia, ib);
-    if image_crosses(file, big, mat, mc, starts, lens, i, span) {
-        return 14;
-    }
-    0
+    Ok(())
 }

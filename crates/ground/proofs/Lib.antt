@@ -2,4 +2,3 @@
 pub mod Finite
 pub mod Runs
 pub mod Answers
-pub mod Taken

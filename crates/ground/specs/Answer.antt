@@ -1,13 +1,13 @@
--- What rules 20 to 22 answer for a survey: the verdict with the georeference and the corners, or with the fixed ones where a rule is broken.
+-- What rules 20 to 22 answer for a survey: the georeference and the corners, or the verdict where a rule is broken.
 -- Assumes nothing.
-use Rattle.std.specs.Prelude.{ℕ, ◌≡◌, ◌⊎◌, cond, List, Float, length}
+use Rattle.std.specs.Prelude.{ℕ, ◌≡◌, ◌⊎◌, List, Float, length, Result}
 use Rattle.paper.specs.Outcome.{first}
 use Rattle.paper.specs.Ground.{Survey, map_x, map_y, georeference, corners}
 use Rattle.paper.specs.Judge.{ground_rules}
-use Rattle.paper.specs.Calls.{accepts, no_corners, no_georeference}
 use Rattle.paper.specs.declared.Verdict.{Verdict}
 use Rattle.paper.specs.declared.Georeference.{Georeference}
 use Rattle.paper.specs.declared.Corners.{Corners}
+use Rattle.outcomes.specs.Ruled.{ruled}
 use Rattle.ground.specs.declared.Place.{Place}
 use Rattle.ground.specs.declared.Ground.{Ground}
 
@@ -25,12 +25,9 @@ pub record Sized (s t m : List ℕ) : Type 0 where
 abbrev pub place_of : Georeference → Float → Float → Place
 place_of g i j = record { x = map_x g i j; y = map_y g i j }
 
-abbrev pub no_ground : Verdict → Ground
-no_ground v = record { verdict = v; georeference = no_georeference; corners = no_corners }
+-- what is found where these rules are kept
+abbrev pub grounded : Verdict → Georeference → Corners → Result Ground Verdict
+grounded v g c = ruled v (record { georeference = g; corners = c })
 
--- the georeference and the corners where the verdict accepts
-abbrev pub grounded : Verdict → Georeference → Corners → Ground
-grounded v g c = cond (accepts v) (record { verdict = v; georeference = g; corners = c }) (no_ground v)
-
-unfoldable pub ground_judged : Survey → Ground
+unfoldable pub ground_judged : Survey → Result Ground Verdict
 ground_judged s = grounded (first (ground_rules s)) (georeference s) (corners s)

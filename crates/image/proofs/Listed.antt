@@ -1,4 +1,4 @@
--- The columns that the pass over a directory leaves for a table's tags, with the entries of 50909 behind the first where the table has it, and the directory
+-- The entries that the pass over a directory finds of a table's tags, with those of 50909 behind the first where the table has it, and the directory
 -- are what may be read of it: a place shares a byte with one of their parts exactly where it shares one with the list. With the head that is the full
 -- reading list. Where rule 6 is kept, each other tag of the table has one entry. Assumes nothing.
 use Prim.Native.Nat.{ℕ, zero, suc, ◌+◌, ◌*◌, ◌≤◌, ◌<◌, min, max}
@@ -7,10 +7,7 @@ use mathlib.Core.Bool.{Bool, true, false, cond, ◌&&◌, ◌||◌, and-true, an
 use mathlib.Core.List.{List, [], ◌∷◌, ◌++◌, map, append_assoc}
 use native.Mathlib.Omega.{arith}
 use lib.Dec.{eqb, ltb}
-use native.Mathlib.Nat.{add-zero}
-use native.Mathlib.Numerals.{add-one}
-use lib.ListN.{length, get_or, drop}
-use lib.Seq.{drop-drop, get_or-drop}
+use lib.ListN.{get_or, drop}
 use borrow.Author.Tests.{eqb-true, eqb-false, eq-eqb, ne_eqb, ltb-true, ltb-false, lt-ltb, le-leb}
 use Rattle.paper.specs.Bytes.{num, build}
 use Rattle.paper.specs.Outcome.{first, ◌▸◌}
@@ -27,19 +24,17 @@ use Rattle.paper.specs.Tag
 use Rattle.paper.proofs.Laws.{first-same, some-append}
 use Rattle.paper.proofs.Loops.{listed_is, some-values}
 use Rattle.paper.proofs.Several.{some-keep, rises-behind, no_other}
-use Rattle.layout.specs.Columns.{field_of, column}
+use Rattle.layout.specs.Columns.{first_with, firsts}
 use Rattle.layout.specs.Repeats.{later_texts}
 use Rattle.layout.proofs.Values.{untyped-len}
 use Rattle.lines.specs.Lined.{line_tags}
-use Rattle.pieces.specs.Gaps.{part_at, wide, parts_of, places_judged}
+use Rattle.pieces.specs.Gaps.{wide, parts_of}
+use Rattle.pieces.specs.Spans.{places_judged}
+use Rattle.image.specs.Stages.{value_part}
 
 -- the value bytes of the entries of 50909 behind the first
 unfoldable pub later_parts : List Entry → List Part
-later_parts es = map (λ e. part e.start e.len) (later_texts es)
-
--- those of one entry
-abbrev pub value_part : Entry → Part
-value_part e = part e.start e.len
+later_parts es = map value_part (later_texts es)
 
 -- ---- whether one of many passes a test
 
@@ -100,9 +95,9 @@ unfolding line_tags in_table
 in-tags tb x = some-map (λ t. eqb t x) (λ l. l.tag) tb
 
 module _ (is : Part → Bool) (tb : List Line) where
-  -- the value of tag t, as the columns have it
+  -- the first value of tag t
   abbrev At : List Entry → ℕ → Bool
-  At es t = is (part (field_of (λ e. e.start) t es) (field_of (λ e. e.len) t es))
+  At es t = is (value_part (first_with t es))
 
   -- one of all the values that the tag has, and one of those behind the first
   abbrev Of : List Entry → ℕ → Bool
@@ -112,7 +107,7 @@ module _ (is : Part → Bool) (tb : List Line) where
   Later es t = some (λ e. is (value_part e)) (drop 1 (keep (λ e. eqb e.tag t) es))
 
   first-or-later : is (part 0 0) ≡ false → (t : ℕ) (es : List Entry) → Of es t ≡ At es t || Later es t
-  unfolding some keep field_of
+  unfolding some keep first_with
   first-or-later none t [] = rw none
   first-or-later none t (e ∷ es) = go (eqb e.tag t) refl (first-or-later none t es)
     where
@@ -141,7 +136,7 @@ module _ (is : Part → Bool) (tb : List Line) where
       some_or (λ t. eqb e.tag t && is (value_part e)) (Of es) (line_tags tb)
       ∙ ap₂ (λ (a b : Bool). a || b) (by-tag e) (by_tags es)
 
-  -- the columns have them all but those of 50909 behind the first
+  -- the first entries are all but those of 50909 behind the first
   values-are : is (part 0 0) ≡ false → (es : List Entry) → rule6 es ≡ kept
       → some (At es) (line_tags tb) || (in_table tb Tag.metadata && some (λ e. is (value_part e)) (later_texts es)) ≡ some (λ e. in_table tb e.tag && is (value_part e)) es
   unfolding rule6 some
@@ -155,25 +150,10 @@ module _ (is : Part → Bool) (tb : List Line) where
       once : (t : ℕ) → eqb t Tag.metadata ≡ false → Later es t ≡ false
       once t n = rw (no_other (λ e. e.tag) behind t (rises-behind t n) es h)
 
--- ---- the parts of the columns, in order
-
 -- a part for each tag
-built-from : (ts : List ℕ) (es : List Entry) (xs ys : List ℕ) (i : ℕ) → drop i xs ≡ column (λ e. e.start) ts es → drop i ys ≡ column (λ e. e.len) ts es
-    → build (part_at xs ys) i (length ts) ≡ map (λ t. part (field_of (λ e. e.start) t es) (field_of (λ e. e.len) t es)) ts
-unfolding build column part_at
-built-from [] es xs ys i p q = refl
-built-from (t ∷ ts) es xs ys i p q =
-    ap₂ (λ (x : Part) (rest : List Part). x ∷ rest) (ap₂ part (here xs i p) (here ys i q)) (built-from ts es xs ys (suc i) (next xs i p) (next ys i q))
-  where
-    here : (zs : List ℕ) (i : ℕ) {z : ℕ} {rest : List ℕ} → drop i zs ≡ z ∷ rest → get_or zs i 0 ≡ z
-    here zs i e = sym (ap (λ (k : ℕ). get_or zs k 0) (add-zero i)) ∙ sym (get_or-drop i zs 0 0) ∙ ap (λ (l : List ℕ). get_or l 0 0) e
-
-    next : (zs : List ℕ) (i : ℕ) {z : ℕ} {rest : List ℕ} → drop i zs ≡ z ∷ rest → drop (suc i) zs ≡ rest
-    next zs i e = sym (ap (λ (k : ℕ). drop k zs) (add-one i)) ∙ sym (drop-drop 1 i zs) ∙ ap (drop 1) e
-
-built-are : (is : Part → Bool) (tb : List Line) (es : List Entry)
-    → some is (build (part_at (column (λ e. e.start) (line_tags tb) es) (column (λ e. e.len) (line_tags tb) es)) 0 (length (line_tags tb))) ≡ some (At is tb es) (line_tags tb)
-built-are is tb es = ap (some is) (built-from (line_tags tb) es _ _ 0 refl refl) ∙ some-map is _ (line_tags tb)
+firsts-are : (is : Part → Bool) (tb : List Line) (es : List Entry) → some is (map value_part (firsts (line_tags tb) es)) ≡ some (At is tb es) (line_tags tb)
+unfolding firsts
+firsts-are is tb es = some-map is value_part _ ∙ some-map (λ e. is (value_part e)) (λ t. first_with t es) (line_tags tb)
 
 -- ---- a value of at most 4 bytes stands in its entry, and so in the directory
 
@@ -237,9 +217,9 @@ module _ (tb : List Line) (f : List ℕ) (big : Bool) (at c : ℕ) (dir : List �
   abbrev Es : List Entry
   Es = entries big at c dir
 
-  -- the parts of the columns
+  -- the parts of the table's tags
   abbrev Own : List Part
-  Own = parts_of (column (λ e. e.start) (line_tags tb) Es) (column (λ e. e.len) (line_tags tb) Es) (length (line_tags tb))
+  Own = parts_of (map value_part (firsts (line_tags tb) Es))
 
   -- the longer values of 50909 behind the first
   abbrev Texts : List Part
@@ -268,13 +248,11 @@ module _ (tb : List Line) (f : List ℕ) (big : Bool) (at c : ℕ) (dir : List �
 
     later-are : some (shares a) Texts ≡ Laters
     unfolding later_parts
-    later-are = some-keep wide (shares a) (later_parts Es) ∙ some-map far (λ e. part e.start e.len) (later_texts Es)
+    later-are = some-keep wide (shares a) (later_parts Es) ∙ some-map far value_part (later_texts Es)
 
     own-are : some (shares a) Own ≡ Firsts
     unfolding parts_of
-    own-are =
-        some-keep wide (shares a) (build (part_at (column (λ e. e.start) (line_tags tb) Es) (column (λ e. e.len) (line_tags tb) Es)) 0 (length (line_tags tb)))
-        ∙ built-are far tb Es
+    own-are = some-keep wide (shares a) (map value_part (firsts (line_tags tb) Es)) ∙ firsts-are far tb Es
 
     -- beside the directory, the longer values are all
     values_same : Longer || Dir ≡ some (listed_is tb (shares a)) Es || Dir
@@ -295,7 +273,7 @@ module _ (tb : List Line) (f : List ℕ) (big : Bool) (at c : ℕ) (dir : List �
         regroup true false x h = absurd (false≢true (sym h))
         regroup false d x h = or_comm d x
 
-    -- with 50909 in the table these are in the columns and in the entries of 50909 behind the first
+    -- with 50909 in the table these are the first values and those of 50909 behind the first
     pub list-with : in_table tb Tag.metadata ≡ true → some (shares a) Known ≡ some (shares a) (Texts ++ Own) || Dir
     unfolding wide
     list-with text =
@@ -306,7 +284,7 @@ module _ (tb : List Line) (f : List ℕ) (big : Bool) (at c : ℕ) (dir : List �
         ∙ or_comm Firsts Laters
         ∙ sym (some-append (shares a) Texts Own ∙ ap₂ (λ (l o : Bool). l || o) later-are own-are))
 
-    -- and without it in the columns alone
+    -- and without it the first values alone
     pub list-without : in_table tb Tag.metadata ≡ false → some (shares a) Known ≡ some (shares a) Own || Dir
     unfolding wide
     list-without text =

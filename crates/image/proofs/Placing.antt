@@ -1,18 +1,20 @@
--- Rules 13 and 14 over the columns are those over the view: the columns' parts that may lie outside an entry are the full reading list, and the runs
--- that two slots name are the offsets and the byte counts of the pieces. Assumes nothing.
+-- Rules 13 and 14 over what was found of a directory are those over the view: the entries' parts that may lie outside them are the full reading list, and the
+-- runs that two slots name are the offsets and the byte counts of the pieces. Assumes nothing.
+use Rattle.std.specs.Prelude.{Result}
 use Prim.Native.Nat.{ℕ, zero, suc, ◌+◌, ◌*◌, ◌≤◌, ◌<◌, zero-le, suc-le-suc}
 use mathlib.Core.Path.{◌≡◌, refl, sym, ap, ◌∙◌, subst}
-use mathlib.Core.Bool.{Bool, true, false, cond, not, ◌&&◌, ◌||◌}
+use mathlib.Core.Bool.{Bool, true, false, cond, not, ◌||◌}
 use mathlib.Core.List.{List, [], ◌∷◌, ◌++◌, map}
 use native.Mathlib.Nat.{one-mul}
 use native.Mathlib.Omega.{arith}
 use lib.Dec.{eqb, leb, ltb, lit<}
-use lib.ListN.{length, get_or, length-map}
-use borrow.Author.Tests.{eqb-true, le-ltb, ltb-true, lt-leb, not-true, not-false}
+use lib.ListN.{length}
+use borrow.Author.Tests.{eqb-true, le-ltb, ltb-true, lt-ltb, lt-leb, not-true, not-false}
 use Rattle.order.specs.Width.{width}
+use Rattle.outcomes.specs.Ruled.{ruled}
 use Rattle.paper.specs.Bytes.{run, num, build}
 use Rattle.paper.specs.Tests.{all, some, keep}
-use Rattle.paper.proofs.Laws.{and-eq, or_same, or-false}
+use Rattle.paper.proofs.Laws.{and-eq, and_both, or_same, or-false, run-length-in}
 use Rattle.paper.specs.Layout.{dir_len, size_of, start_of, entry_of}
 use Rattle.paper.specs.Tags.{Line, Held, named, table, in_table, fits_the_line, find, has, tiled, offsets_tag, byte_counts_tag, piece_count, rule10}
 use Rattle.paper.proofs.Bounds.{table-named}
@@ -20,26 +22,28 @@ use Rattle.paper.specs.Pieces.{part, places_of, pieces}
 use Rattle.paper.specs.declared.Outcome.TheVariants.{Kept as kept}
 use Rattle.paper.specs.declared.Part.{Part}
 use Rattle.paper.specs.declared.Entry.{Entry}
+use Rattle.paper.specs.declared.Verdict.{Verdict}
 use Rattle.paper.specs.Judge.{View, pieces_of, full_of, piece_rules}
+use Rattle.layout.specs.Columns.{firsts}
 use Rattle.layout.specs.Repeats.{entries_from}
 use Rattle.layout.specs.declared.Further.{Further}
 use Rattle.tags.specs.Index
 use Rattle.tags.specs.Slots.{line_at, tag_at, slot_of_offsets, slot_of_byte_counts}
-use Rattle.layout.proofs.Turns.{long}
 use Rattle.lines.specs.Lined.{line_tags}
-use Rattle.lines.specs.Ready.{entries_at, held_at, Ready, Behind}
-use Rattle.lines.proofs.Slots.{slot}
+use Rattle.lines.specs.Ready.{entries_at, held_at, at_slot, Ready, Behind}
+use Rattle.lines.proofs.Slots.{slot, found-long}
 use Rattle.tags.specs.Tagging.{view_of}
+use Rattle.tags.specs.declared.Pictured.{Pictured}
 use Rattle.tags.proofs.Slots.{slot_at, later-fit}
-use Rattle.tags.proofs.Answers.{later-holds, later_lent}
+use Rattle.tags.proofs.Answers.{later-holds}
 use Rattle.tags.proofs.Rules.{Lined, lined}
 use Rattle.tags.proofs.Fetched.{short-len}
-use Rattle.tags.proofs.Accepted.{Accepted, accepted, PieceColumn}
-use Rattle.pieces.specs.Gaps.{Addable, part_at, wide, parts_of, named_at, named_parts, places_judged, placed_of}
-use Rattle.pieces.specs.Spans.{no_span, span_of, placed}
-use Rattle.pieces.specs.declared.Placed.{Placed}
-use Rattle.image.specs.Stages.{Fits, pieces_judged, placed_in, outer_of}
-use Rattle.image.proofs.Listed.{later_parts, value_part, keep_append, columns-judged}
+use Rattle.tags.proofs.Accepted.{Told, told, Accepted, accepted, PieceColumn}
+use Rattle.pieces.specs.Gaps.{addable, Addable, wide, parts_of, named_at, named_parts}
+use Rattle.pieces.specs.Spans.{no_span, span_of, places_judged, placed_of}
+use Rattle.pieces.specs.declared.Span.{Span}
+use Rattle.image.specs.Stages.{value_part, Fits, pieces_judged, placed_in, outer_of}
+use Rattle.image.proofs.Listed.{later_parts, keep_append, columns-judged}
 
 -- a list of parts with those that are chosen alone: none of the others counts
 kept-chosen : (ps : ℕ → Part) (chosen : ℕ → Bool) (ks : List ℕ) → all (λ k. chosen k || not (wide (ps k))) ks ≡ true
@@ -59,32 +63,34 @@ kept-chosen ps chosen (k ∷ ks) h =
 chosen : ℕ → ℕ → ℕ → Bool
 chosen a b k = eqb k Index.bits || (eqb k a || (eqb k b || leb Index.scale k))
 
--- a column whose numbers are low
-addable : (xs : List ℕ) → ((k : ℕ) → k < length xs → get_or xs k 0 < 68719476736) → Addable xs
-addable [] h i = lit< tt
-addable (x ∷ xs) h zero = h 0 (suc-le-suc zero-le)
-addable (x ∷ xs) h (suc i) = addable xs (λ k l. h (suc k) (suc-le-suc l)) i
+-- parts of which each is low
+addable-each : (es : List Entry) → ((k : ℕ) → k < length es → addable (value_part (at_slot es k)) ≡ true) → Addable (map value_part es)
+unfolding all
+addable-each [] h = refl
+addable-each (e ∷ es) h = and_both _ _ (h 0 (suc-le-suc zero-le)) (addable-each es (λ k l. h (suc k) (suc-le-suc l)))
 
--- the outer numbers of an addable column
-outer-addable : (xs : List ℕ) (a b head dir : ℕ) → Addable xs → head < 68719476736 → dir < 68719476736 → Addable (outer_of xs a b head dir)
-unfolding outer_of
-outer-addable xs a b head dir h p q zero = h Index.bits
-outer-addable xs a b head dir h p q (suc zero) = h a
-outer-addable xs a b head dir h p q (suc (suc zero)) = h b
-outer-addable xs a b head dir h p q (suc (suc (suc zero))) = h Index.scale
-outer-addable xs a b head dir h p q (suc (suc (suc (suc zero)))) = h Index.tiepoint
-outer-addable xs a b head dir h p q (suc (suc (suc (suc (suc zero))))) = h Index.matrix
-outer-addable xs a b head dir h p q (suc (suc (suc (suc (suc (suc zero)))))) = h Index.key_directory
-outer-addable xs a b head dir h p q (suc (suc (suc (suc (suc (suc (suc zero))))))) = h Index.doubles
-outer-addable xs a b head dir h p q (suc (suc (suc (suc (suc (suc (suc (suc zero)))))))) = h Index.characters
-outer-addable xs a b head dir h p q (suc (suc (suc (suc (suc (suc (suc (suc (suc zero))))))))) = h Index.metadata
-outer-addable xs a b head dir h p q (suc (suc (suc (suc (suc (suc (suc (suc (suc (suc zero)))))))))) = p
-outer-addable xs a b head dir h p q (suc (suc (suc (suc (suc (suc (suc (suc (suc (suc (suc zero))))))))))) = q
-outer-addable xs a b head dir h p q (suc (suc (suc (suc (suc (suc (suc (suc (suc (suc (suc (suc k)))))))))))) = lit< tt
+-- a part that lies in a file is
+inside-addable : (n : ℕ) (p : Part) → p.start + p.len ≤ n → n ≤ 4294967295 → addable p ≡ true
+inside-addable n p w s = and_both _ _ (lt-ltb p.start 68719476736 (omega arith)) (lt-ltb p.len 68719476736 (omega arith))
 
-outer-length : (xs : List ℕ) (a b head dir : ℕ) → 12 ≤ length (outer_of xs a b head dir)
-unfolding outer_of
-outer-length xs a b head dir = omega arith
+-- and so are those that the pass over the places is handed
+outer-addable : (es : List Entry) (a b : ℕ) (dir : Part) → ((k : ℕ) → k < Index.many → addable (value_part (at_slot es k)) ≡ true)
+    → a < Index.many → b < Index.many → addable dir ≡ true → Addable (outer_of es a b dir)
+unfolding outer_of all
+outer-addable es a b dir h la lb q =
+    rw (
+      h Index.bits (lit< tt),
+      h a la,
+      h b lb,
+      h Index.scale (lit< tt),
+      h Index.tiepoint (lit< tt),
+      h Index.matrix (lit< tt),
+      h Index.key_directory (lit< tt),
+      h Index.doubles (lit< tt),
+      h Index.characters (lit< tt),
+      h Index.metadata (lit< tt),
+      q,
+    )
 
 -- ---- the parts that entries of BYTEs name
 
@@ -127,7 +133,7 @@ named-are big start many s is h =
     byte-parts big start s 0 many (ap (some (λ e. not (fits_the_line (line_at Index.metadata) e))) is ∙ h) ∙ ap (λ (xs : List Entry). keep wide (map value_part xs)) is
 
 -- the further entries of 50909 are BYTEs, so that the parts which they name are those of their values
-pub later-named : {f : List ℕ} {big : Bool} {at c : ℕ} {typs counts starts lens : List ℕ} {r : Further} → Ready table f big at c typs counts starts lens
+pub later-named : {f : List ℕ} {big : Bool} {at c : ℕ} {found : List Entry} {r : Further} → Ready table f big at c found
     → Behind f big at c r → rule10 table (held_at table f big at c) ≡ kept
     → named_parts big (run f r.start (12 * r.many)) r.many ≡ keep wide (later_parts (entries_at f big at c))
 unfolding later_parts entries_at
@@ -135,36 +141,37 @@ later-named {f} {big} {at} {c} {r = r} k w ten =
     let h = later-holds k w in
     named-are big r.start r.many (run f r.start (12 * r.many)) h.are (later-fit f big at c ten)
 
--- the numbers of the columns lie in the file
-pub columns-addable : {tb : List Line} {f : List ℕ} {big : Bool} {at c : ℕ} {typs counts starts lens : List ℕ} → Ready tb f big at c typs counts starts lens
-    → all named tb ≡ true → Addable starts × Addable lens
+-- the values of the entries lie in the file
+pub parts-addable : {tb : List Line} {f : List ℕ} {big : Bool} {at c : ℕ} {found : List Entry} → Ready tb f big at c found → all named tb ≡ true
+    → Addable (map value_part found)
 unfolding line_tags
-columns-addable {tb} {f} {starts = starts} {lens} k names =
-    let l = long k.columns in
-    let m : length (map (λ (x : Line). x.tag) tb) ≡ length tb = length-map tb (λ (x : Line). x.tag) in
-    (addable starts (λ j h. (low j (omega (arith, h, l.starts_long, m))).0), addable lens (λ j h. (low j (omega (arith, h, l.lens_long, m))).1))
+parts-addable {tb} {f} {big} {at} {c} {found} k names = addable-each found low
   where
-    low : (j : ℕ) → j < length tb → (get_or starts j 0 < 68719476736) × (get_or lens j 0 < 68719476736)
-    low j h =
-        let w = (slot k names j h).within in
-        let n = k.size in
-        (omega arith, omega arith)
+    low : (j : ℕ) → j < length found → addable (value_part (at_slot found j)) ≡ true
+    low j h = inside-addable (length f) _ (slot k names j (subst (λ (n : ℕ). j < n) (found-long k) h)).within k.size
 
-module _ {f : List ℕ} {big : Bool} {at c : ℕ} {t : Bool} {typs counts starts lens : List ℕ} {r : Further} (p : Fits f big at c t typs counts starts lens r) where
+module _ {f : List ℕ} {big : Bool} {at c : ℕ} {t : Pictured} {found : List Entry} {r : Further} (p : Fits f big at c t found r) where
   abbrev Looked : View
   Looked = view_of table f big at c
 
+  -- the entry of slot k, and the bytes of its value
+  abbrev Of : ℕ → Entry
+  Of k = at_slot found k
+
   abbrev Stood : ℕ → List ℕ
-  Stood k = run f (get_or starts k 0) (get_or lens k 0)
+  Stood k = run f (at_slot found k).start (at_slot found k).len
 
-  told : Accepted f big at c typs counts starts lens
-  told = accepted f big at c typs counts starts lens p.passed.ready p.twelve
+  picture : Told f big at c t
+  picture = told f big at c t p.pictured
 
-  pub slot-within : (k : ℕ) → k < Index.many → get_or starts k 0 + get_or lens k 0 ≤ length f
+  known : Accepted f big at c found
+  known = accepted f big at c found p.passed.ready picture.zero
+
+  pub slot-within : (k : ℕ) → k < Index.many → (at_slot found k).start + (at_slot found k).len ≤ length f
   slot-within k h = (slot_at p.passed.ready k h).within
 
   -- a tag with one SHORT or LONG has its value in its entry
-  short-slot : (k : ℕ) → k < Index.many → size_of (line_at k).type ≤ 4 → size_of (line_at k).other ≤ 4 → (line_at k).most ≡ 1 → get_or lens k 0 ≤ 4
+  short-slot : (k : ℕ) → k < Index.many → size_of (line_at k).type ≤ 4 → size_of (line_at k).other ≤ 4 → (line_at k).most ≡ 1 → (Of k).len ≤ 4
   unfolding line_at tag_at table
   short-slot k h a b m = short-len (slot_at p.passed.ready k h) one a b
     where
@@ -172,21 +179,21 @@ module _ {f : List ℕ} {big : Bool} {at c : ℕ} {t : Bool} {typs counts starts
       Upto n = Lined (held_at table f big at c) (tag_at k) (line_at k).type (line_at k).other (line_at k).least n
 
       one : has (tag_at k) (held_at table f big at c) ≡ true → Upto 1
-      one q = subst (λ (n : ℕ). Upto n) m (lined table table-named (held_at table f big at c) told.ten k h q)
+      one q = subst (λ (n : ℕ). Upto n) m (lined table table-named (held_at table f big at c) known.ten k h q)
 
   -- so the parts that count are among the outer ones
   abbrev Reach : ℕ → Part
-  Reach k = part (get_or starts k 0) (get_or lens k 0)
+  Reach k = value_part (at_slot found k)
 
-  short-part : (k : ℕ) → get_or lens k 0 ≤ 4 → wide (Reach k) ≡ false
+  short-part : (k : ℕ) → (Of k).len ≤ 4 → wide (Reach k) ≡ false
   unfolding wide
-  short-part k h = le-ltb 4 (get_or lens k 0) h
+  short-part k h = le-ltb 4 (Of k).len h
 
   short : (k : ℕ) → k < Index.many → size_of (line_at k).type ≤ 4 → size_of (line_at k).other ≤ 4 → (line_at k).most ≡ 1 → wide (Reach k) ≡ false
   short k h a b m = short-part k (short-slot k h a b m)
 
   -- and a tag of the family that is absent has no bytes
-  none-part : (k : ℕ) → get_or lens k 0 ≡ 0 → wide (Reach k) ≡ false
+  none-part : (k : ℕ) → (Of k).len ≡ 0 → wide (Reach k) ≡ false
   none-part k z = short-part k (omega arith)
 
   -- the parts of the head and of the directory
@@ -194,10 +201,10 @@ module _ {f : List ℕ} {big : Bool} {at c : ℕ} {t : Bool} {typs counts starts
   Ends = part 0 8 ∷ part at (dir_len c) ∷ []
 
   parts_at : (v : Bool) → v ≡ tiled (held_at table f big at c)
-      → parts_of (outer_of starts (slot_of_offsets v) (slot_of_byte_counts v) 0 at) (outer_of lens (slot_of_offsets v) (slot_of_byte_counts v) 8 (dir_len c)) 12
-      ≡ parts_of starts lens Index.many ++ keep wide Ends
-  unfolding parts_of part_at build outer_of line_at tag_at table size_of slot_of_offsets slot_of_byte_counts all keep chosen
-  parts_at v e = go v e told.no_offsets told.no_byte_counts
+      → parts_of (outer_of found (slot_of_offsets v) (slot_of_byte_counts v) (part at (dir_len c)))
+      ≡ parts_of (map Reach (build (λ k. k) 0 Index.many)) ++ keep wide Ends
+  unfolding parts_of build outer_of line_at tag_at table size_of slot_of_offsets slot_of_byte_counts all keep chosen
+  parts_at v e = go v e known.no_offsets known.no_byte_counts
     where
       short0 : wide (Reach Index.width) ≡ false
       short0 = short Index.width (lit< tt) (omega arith) (omega arith) refl
@@ -231,10 +238,10 @@ module _ {f : List ℕ} {big : Bool} {at c : ℕ} {t : Bool} {typs counts starts
           → keep wide (map Reach ks ++ Ends) ≡ keep wide (map Reach (build (λ k. k) 0 Index.many)) ++ keep wide Ends
       joined ks same = keep_append wide (map Reach ks) Ends ∙ ap (λ (ps : List Part). ps ++ keep wide Ends) same
 
-      go : (v : Bool) → v ≡ tiled (held_at table f big at c) → get_or lens (slot_of_offsets (not (tiled (held_at table f big at c)))) 0 ≡ 0
-          → get_or lens (slot_of_byte_counts (not (tiled (held_at table f big at c)))) 0 ≡ 0
-          → parts_of (outer_of starts (slot_of_offsets v) (slot_of_byte_counts v) 0 at) (outer_of lens (slot_of_offsets v) (slot_of_byte_counts v) 8 (dir_len c)) 12
-          ≡ parts_of starts lens Index.many ++ keep wide Ends
+      go : (v : Bool) → v ≡ tiled (held_at table f big at c) → (Of (slot_of_offsets (not (tiled (held_at table f big at c))))).len ≡ 0
+          → (Of (slot_of_byte_counts (not (tiled (held_at table f big at c))))).len ≡ 0
+          → parts_of (outer_of found (slot_of_offsets v) (slot_of_byte_counts v) (part at (dir_len c)))
+          ≡ parts_of (map Reach (build (λ k. k) 0 Index.many)) ++ keep wide Ends
       go true e x y =
           joined (keep (chosen Index.tile_offsets Index.tile_byte_counts) (build (λ k. k) 0 Index.many))
           (kept-chosen Reach (chosen Index.tile_offsets Index.tile_byte_counts) (build (λ k. k) 0 Index.many)
@@ -244,102 +251,87 @@ module _ {f : List ℕ} {big : Bool} {at c : ℕ} {t : Bool} {typs counts starts
           (kept-chosen Reach (chosen Index.strip_offsets Index.strip_byte_counts) (build (λ k. k) 0 Index.many)
           (rw (short0, short1, short3, short4, short6, short7, short9, short10, short11, none-part Index.tile_offsets (rw (← e) at x), none-part Index.tile_byte_counts (rw (← e) at y))))
 
-  -- the size of the file
-  file-eight : 8 ≤ length f
-  file-eight =
-      let l = p.passed.ready.low in
-      let w = p.passed.ready.whole in
-      omega arith
+  low : (k : ℕ) → k < Index.many → addable (value_part (at_slot found k)) ≡ true
+  low k h = inside-addable (length f) _ (slot-within k h) p.passed.ready.size
 
-  lent-addable : Addable starts × Addable lens
-  lent-addable = columns-addable p.passed.ready table-named
+  -- the parts of all slots
+  all-parts : map Reach (build (λ k. k) 0 Index.many) ≡ map value_part (firsts (line_tags table) (entries_at f big at c))
+  unfolding build firsts line_tags table
+  all-parts = ap (λ (es : List Entry). map (λ k. value_part (at_slot es k)) (build (λ k. k) 0 Index.many)) p.passed.ready.found_are
 
   abbrev Front : List Part
   Front = keep wide (later_parts (entries_at f big at c))
 
   -- the pieces, whose offsets have slot x and byte counts slot y
-  module _ {x y : ℕ} (is_x : x ≡ slot_of_offsets t) (is_y : y ≡ slot_of_byte_counts t) where
+  module _ {x y : ℕ} (is_x : x ≡ slot_of_offsets t.tiled) (is_y : y ≡ slot_of_byte_counts t.tiled) where
     abbrev Hs : List Held
     Hs = held_at table f big at c
 
     abbrev Column : ℕ → ℕ → Type 0
-    Column u k = PieceColumn f Hs typs counts starts lens (piece_count big Hs) u k
+    Column u k = PieceColumn f Hs found (piece_count big Hs) u k
 
     -- the bytes of a number of slot k
     abbrev Wide : ℕ → ℕ
-    Wide k = width (eqb (get_or typs k 0) 4)
+    Wide k = width (eqb (at_slot found k).typ 4)
 
     offsets : Column (offsets_tag Hs) x
-    offsets = subst (Column (offsets_tag Hs)) (sym (is_x ∙ ap slot_of_offsets p.tiled_is)) told.offsets
+    offsets = subst (Column (offsets_tag Hs)) (sym (is_x ∙ ap slot_of_offsets picture.tiled_is)) known.offsets
 
     byte_counts : Column (byte_counts_tag Hs) y
-    byte_counts = subst (Column (byte_counts_tag Hs)) (sym (is_y ∙ ap slot_of_byte_counts p.tiled_is)) told.byte_counts
+    byte_counts = subst (Column (byte_counts_tag Hs)) (sym (is_y ∙ ap slot_of_byte_counts picture.tiled_is)) known.byte_counts
 
-    byte_counts_room : Wide y * get_or counts x 0 ≤ length (Stood y)
-    byte_counts_room = subst (λ (k : ℕ). Wide y * k ≤ length (Stood y)) (byte_counts.count ∙ sym offsets.count) byte_counts.room
+    -- what the pass over the places asks of the two runs
+    pub offsets-room : width (eqb (at_slot found x).typ 4) * (at_slot found x).count
+        ≤ length (run f (at_slot found x).start (at_slot found x).len)
+    offsets-room = offsets.room
 
-    places-are : places_of big (Wide x) (Stood x) (Wide y) (Stood y) (get_or counts x 0) ≡ pieces_of Looked
+    pub byte-counts-room : width (eqb (at_slot found y).typ 4) * (at_slot found x).count
+        ≤ length (run f (at_slot found y).start (at_slot found y).len)
+    byte-counts-room = subst (λ (k : ℕ). Wide y * k ≤ length (Stood y)) (byte_counts.count ∙ sym offsets.count) byte_counts.room
+
+    pub few : (at_slot found x).count < 4294967296
+    few =
+        let n = p.passed.ready.size in
+        let l = run-length-in f (Of x).start (Of x).len offsets.slot.within in
+        let m = offsets.slot.within in
+        go (eqb (Of x).typ 4) offsets.room n l m
+      where
+        go : (w : Bool) → width w * (Of x).count ≤ length (Stood x) → length f ≤ 4294967295 → length (Stood x) ≡ (Of x).len
+            → (Of x).start + (Of x).len ≤ length f → (Of x).count < 4294967296
+        go true r n l m = omega arith
+        go false r n l m = omega arith
+
+    places-are : places_of big (Wide x) (Stood x) (Wide y) (Stood y) (Of x).count ≡ pieces_of Looked
     unfolding pieces_of pieces view_of
     places-are =
         let o = offsets in
         let s = byte_counts in
-        let a : Wide x ≡ size_of (find (offsets_tag Hs) Hs).entry.typ = sym o.wide ∙ ap size_of (sym o.slot.typ) in
-        let b : Wide y ≡ size_of (find (byte_counts_tag Hs) Hs).entry.typ = sym s.wide ∙ ap size_of (sym s.slot.typ) in
-        λ i. places_of big (a i) (sym o.slot.bytes i) (b i) (sym s.slot.bytes i) (sym o.slot.count i)
+        let a : Wide x ≡ size_of (find (offsets_tag Hs) Hs).entry.typ = sym o.wide ∙ ap (λ (e : Entry). size_of e.typ) (sym o.slot.entry) in
+        let b : Wide y ≡ size_of (find (byte_counts_tag Hs) Hs).entry.typ = sym s.wide ∙ ap (λ (e : Entry). size_of e.typ) (sym s.slot.entry) in
+        λ i. places_of big (a i) (sym o.slot.bytes i) (b i) (sym s.slot.bytes i) (sym o.slot.entry i).count
 
-    outer-parts : parts_of (outer_of starts x y 0 at) (outer_of lens x y 8 (dir_len c)) 12 ≡ parts_of starts lens Index.many ++ keep wide Ends
-    outer-parts = (λ i. parts_of (outer_of starts (is_x i) (is_y i) 0 at) (outer_of lens (is_x i) (is_y i) 8 (dir_len c)) 12) ∙ parts_at t p.tiled_is
+    outer-parts : parts_of (outer_of found x y (part at (dir_len c))) ≡ parts_of (map value_part (firsts (line_tags table) (entries_at f big at c))) ++ keep wide Ends
+    outer-parts =
+        (λ i. parts_of (outer_of found ((is_x ∙ ap slot_of_offsets picture.tiled_is) i) ((is_y ∙ ap slot_of_byte_counts picture.tiled_is) i) (part at (dir_len c))))
+        ∙ parts_at (tiled Hs) refl
+        ∙ ap (λ (ps : List Part). parts_of ps ++ keep wide Ends) all-parts
 
-    place-low : at < 68719476736
-    place-low = let w = p.passed.ready.whole in let n = p.passed.ready.size in omega arith
+    pub outer-low : x < Index.many → y < Index.many → (directory : Part) → directory.start + directory.len ≤ length f → Addable (outer_of found x y directory)
+    outer-low lx ly directory w = outer-addable found x y directory low lx ly (inside-addable (length f) directory w p.passed.ready.size)
 
-    length_low : dir_len c < 68719476736
-    length_low = let w = p.passed.ready.few in omega arith
-
-    -- the two runs and the two columns that the pass over the places is handed
-    module _ {os bs ss ls fs : List ℕ} (is-o : os ≡ Stood x) (is_b : bs ≡ Stood y) (is-s : ss ≡ outer_of starts x y 0 at) (is-l : ls ≡ outer_of lens x y 8 (dir_len c))
-        {many : ℕ} (is-many : (many ≡ get_or counts x 0) × (many < 4294967296)) (is_f : fs ≡ run f r.start (12 * r.many)) where
-      -- what it asks
-      pub places-asked : (many < 4294967296)
-          × (Wide x * many ≤ length os)
-          × (Wide y * many ≤ length bs)
-          × (12 ≤ length ss)
-          × (12 ≤ length ls)
-          × Addable ss
-          × Addable ls
-          × (8 ≤ length f)
-          × (length f ≤ 4294967295)
-          × (12 * r.many ≤ length fs)
-      places-asked =
-          rw (is-o, is_b, is-s, is-l, is-many.0) (
-            rw is-many.0 at is-many.1,
-            offsets.room,
-            byte_counts_room,
-            outer-length starts x y 0 at,
-            outer-length lens x y 8 (dir_len c),
-            outer-addable starts x y 0 at lent-addable.0 (lit< tt) place-low,
-            outer-addable lens x y 8 (dir_len c) lent-addable.1 (lit< tt) length_low,
-            file-eight,
-            p.passed.ready.size,
-            (later_lent p.passed.ready p.passed.behind is_f).0,
-          )
-
-      -- and what it answers, of the view
-      verdict-seen : places_judged (length f) (named_parts big fs r.many ++ parts_of ss ls 12) (places_of big (Wide x) os (Wide y) bs many) ≡ pieces_judged Looked
+    -- what the pass over the places answers, of the view
+    module _ {fs : List ℕ} (is_f : fs ≡ run f r.start (12 * r.many)) {ps : List Part} (is-ps : ps ≡ outer_of found x y (part at (dir_len c))) where
+      verdict-seen : places_judged (length f) (named_parts big fs r.many ++ parts_of ps) (places_of big (Wide x) (Stood x) (Wide y) (Stood y) (Of x).count)
+          ≡ pieces_judged Looked
       unfolding pieces_judged piece_rules full_of view_of entries_at held_at line_tags table in_table some
       verdict-seen =
-          let k = p.passed.ready in
-          let named : named_parts big fs r.many ≡ Front = ap (λ (s : List ℕ). named_parts big s r.many) is_f ∙ later-named k p.passed.behind told.ten in
-          (λ i. places_judged (length f) (named i ++ parts_of (is-s i) (is-l i) 12) (places_of big (Wide x) (is-o i) (Wide y) (is_b i) (is-many.0 i)))
-          ∙ (λ i. places_judged (length f) (Front ++ outer-parts i) (places-are i))
-          ∙ (λ i. places_judged (length f) (Front ++ (parts_of (k.columns.starts_are i) (k.columns.lens_are i) Index.many ++ keep wide Ends)) (pieces_of Looked))
+          let named : named_parts big fs r.many ≡ Front =
+          ap (λ (s : List ℕ). named_parts big s r.many) is_f ∙ later-named p.passed.ready p.passed.behind known.ten in
+          (λ i. places_judged (length f) (named i ++ (ap parts_of is-ps ∙ outer-parts) i) (places-are i))
           ∙ columns-judged table refl f big at c (run f at (dir_len c)) p.passed.behind.six (length f) (pieces_of Looked)
 
-      places-seen : places_of big (Wide x) os (Wide y) bs many ≡ pieces_of Looked
-      places-seen = (λ i. places_of big (Wide x) (is-o i) (Wide y) (is_b i) (is-many.0 i)) ∙ places-are
-
-      pub pieces-seen : (spanned : Bool) {w : Placed}
-          → w ≡ placed_of spanned (length f) (named_parts big fs r.many ++ parts_of ss ls 12) (places_of big (Wide x) os (Wide y) bs many) → w ≡ placed_in spanned Looked
+      pub pieces-seen : (spanned : Bool) {w : Result Span Verdict}
+          → w ≡ placed_of spanned (length f) (named_parts big fs r.many ++ parts_of ps) (places_of big (Wide x) (Stood x) (Wide y) (Stood y) (Of x).count)
+          → w ≡ placed_in spanned Looked
       unfolding placed_of placed_in
-      pieces-seen spanned e =
-          e ∙ (λ i. placed (verdict-seen i) (cond (spanned && eqb (verdict-seen i).number 0) (span_of (places-seen i)) no_span))
+      pieces-seen spanned e = e ∙ (λ i. ruled (verdict-seen i) (cond spanned (span_of (places-are i)) no_span))

@@ -1,7 +1,7 @@
--- A file whose image is accepted: its directory is ready for the rules of its table, whatever the columns are read by; the value of each tag of the table
+-- A file whose image is accepted: its directory is ready for the rules of its table, whatever its entries are found by; the value of each tag of the table
 -- is a run that lies in the file; and rules 13 and 14 are kept. Assumes nothing.
 use Prim.Native.Nat.{ℕ, ◌+◌, ◌-◌, ◌≤◌, ◌<◌}
-use mathlib.Core.Path.{◌≡◌, refl, sym, ap, ap₂, ◌∙◌, subst}
+use mathlib.Core.Path.{◌≡◌, refl, sym, ap, ◌∙◌, subst}
 use mathlib.Core.Bool.{not}
 use mathlib.Core.List.{List}
 use lib.Dec.{eqb}
@@ -19,7 +19,7 @@ use Rattle.paper.proofs.Bounds.{rule4-gives, rule5-gives}
 use Rattle.paper.specs.declared.Outcome.TheVariants.{Kept as kept}
 use Rattle.paper.specs.declared.Entry.{Entry}
 use Rattle.paper.specs.declared.Verdict.{Verdict}
-use Rattle.layout.specs.Columns.{column, Columns}
+use Rattle.layout.specs.Columns.{firsts}
 use Rattle.layout.specs.Repeats.{text_count, further_of, later_texts}
 use Rattle.layout.proofs.Opening.{size-gives}
 use Rattle.layout.proofs.Repeats.{FurtherHolds, further-holds, later-within}
@@ -27,7 +27,7 @@ use Rattle.tags.specs.Index
 use Rattle.tags.specs.Slots.{tag_at}
 use Rattle.lines.specs.Lined.{line_tags}
 use Rattle.lines.specs.Ready.{entries_at, held_at, Ready}
-use Rattle.tags.specs.Tagging.{view_of, tagged_by, tagged_of}
+use Rattle.tags.specs.Tagging.{view_of}
 use Rattle.tags.proofs.Slots.{slot_at}
 use Rattle.tags.proofs.Accepted.{view_is, Accepted, accepted as tags-accepted}
 use Rattle.paper.specs.Pieces.{rule13, rule14}
@@ -68,12 +68,12 @@ module _ (f : List ℕ) (zero : (image_stage f).number ≡ 0) where
   abbrev pub Helds : List Held
   Helds = held_at table f (head_in f).big (head_in f).at (count_in f (head_in f))
 
-  -- the columns of its tags
-  abbrev pub Column : (Entry → ℕ) → List ℕ
-  Column field = column field (line_tags table) Entries
+  -- the first of each tag of the table
+  abbrev pub Firsts : List Entry
+  Firsts = firsts (line_tags table) (entries_at f (head_in f).big (head_in f).at (count_in f (head_in f)))
 
-  pub ready_with : {typs counts starts lens : List ℕ} → Columns (line_tags table) Entries typs counts starts lens
-      → Ready table f (head_in f).big (head_in f).at (count_in f (head_in f)) typs counts starts lens
+  pub ready_with : {found : List Entry} → found ≡ firsts (line_tags table) (entries_at f (head_in f).big (head_in f).at (count_in f (head_in f)))
+      → Ready table f (head_in f).big (head_in f).at (count_in f (head_in f)) found
   unfolding offset_stage offset_rules count_stage count_rules entry_stage entry_rules head_in head_of entries_in dir_run entries_at all
   ready_with k =
       let four = rule4-gives (length f) (head_in f).at (kept-first (offset_rules (head_in f)) refl offset_zero.0 0) in
@@ -85,12 +85,12 @@ module _ (f : List ℕ) (zero : (image_stage f).number ≡ 0) where
         some = five.some;
         few = five.few;
         whole = five.whole;
-        columns = k;
+        found_are = k;
         seven = kept-first (entry_rules (head_in f) (entries_in f (head_in f))) refl count_zero.1 1;
       }
 
-  ready : Ready table f (head_in f).big (head_in f).at (count_in f (head_in f)) (Column (λ e. e.typ)) (Column (λ e. e.count)) (Column (λ e. e.start)) (Column (λ e. e.len))
-  ready = ready_with (record { typs_are = refl; counts_are = refl; starts_are = refl; lens_are = refl })
+  ready : Ready table f (head_in f).big (head_in f).at (count_in f (head_in f)) Firsts
+  ready = ready_with refl
 
   pub six-kept : rule6 Entries ≡ kept
   unfolding entry_stage entry_rules entries_in dir_run entries_at all
@@ -114,24 +114,23 @@ module _ (f : List ℕ) (zero : (image_stage f).number ≡ 0) where
   unfolding view head_in head_of
   view-seen = sym (view_is f (head_in f).big (head_in f).at (count_in f (head_in f)) refl)
 
-  pub table-zero : (tagged_of (view f)).verdict.number ≡ 0
-  unfolding picture_stage picture_rules table_rules tagged_of tagged_by all
+  pub table-zero : (first (table_rules (view f))).number ≡ 0
+  unfolding picture_stage picture_rules table_rules all
   table-zero =
-      (chain-both (tagged_of (view f)).verdict _
+      (chain-both (first (table_rules (view f))) _
       (ap (λ (v : Verdict). v.number) (sym (first-append (table_rules (view f)) (piece_rules (full_of (view f)) (view f)) refl)) ∙ picture-zero)).0
 
-  pub known : Accepted f (head_in f).big (head_in f).at (count_in f (head_in f)) (Column (λ e. e.typ)) (Column (λ e. e.count)) (Column (λ e. e.start)) (Column (λ e. e.len))
-  known = tags-accepted f _ _ _ _ _ _ _ ready (rw view-seen at table-zero)
+  pub known : Accepted f (head_in f).big (head_in f).at (count_in f (head_in f)) Firsts
+  known = tags-accepted f _ _ _ _ ready (rw view-seen at table-zero)
 
   -- tag k of the table
   pub image-stands : (k : ℕ) → k < Index.many → Stands f (view f).held (tag_at k)
   image-stands k h =
       let s = slot_at ready k h in
       let w : (find (tag_at k) Helds).entry.start + (find (tag_at k) Helds).entry.len ≤ length f =
-      subst (λ (x : ℕ). x + (find (tag_at k) Helds).entry.len ≤ length f) (sym s.start)
-      (subst (λ (y : ℕ). get_or (Column (λ e. e.start)) k 0 + y ≤ length f) (sym s.len) s.within) in
+      subst (λ (e : Entry). e.start + e.len ≤ length f) (sym s.entry) s.within in
       let b : run f (find (tag_at k) Helds).entry.start (find (tag_at k) Helds).entry.len ≡ bytes_of (tag_at k) Helds =
-      ap₂ (run f) s.start s.len ∙ sym s.bytes in
+      ap (λ (e : Entry). run f e.start e.len) s.entry ∙ sym s.bytes in
       subst (λ (hs : List Held). Stands f hs (tag_at k)) (sym held-is) (record { bytes = b; within = w })
 
   -- it is present exactly where its value does not start at 0
@@ -139,7 +138,7 @@ module _ (f : List ℕ) (zero : (image_stage f).number ≡ 0) where
   image-present k h =
       let s = slot_at ready k h in
       let p : has (tag_at k) Helds ≡ not (eqb (find (tag_at k) Helds).entry.start 0) =
-      s.present ∙ ap (λ (x : ℕ). not (eqb x 0)) (sym s.start) in
+      s.present ∙ ap (λ (e : Entry). not (eqb e.start 0)) (sym s.entry) in
       subst (λ (hs : List Held). has (tag_at k) hs ≡ not (eqb (find (tag_at k) hs).entry.start 0)) (sym held-is) p
 
   -- the picture

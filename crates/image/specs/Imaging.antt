@@ -1,29 +1,24 @@
 -- What rules 1 to 7, 9 to 14 and 27 find of a file: the picture's size, where the directory stands, the next offset, the span of the pieces where that is
 -- not 0, and where the values stand that rules 15 to 22 and the calls ask for. Assumes nothing.
-use Rattle.std.specs.Prelude.{ℕ, false, cond, List, map, eqb}
-use Rattle.paper.specs.Outcome.{verdict}
+use Rattle.std.specs.Prelude.{ℕ, cond, List, map, eqb, Result}
+use Rattle.outcomes.specs.Ruled.{ruled}
 use Rattle.paper.specs.Tag
 use Rattle.paper.specs.Tags.{Held, find, value_of}
 use Rattle.paper.specs.Pieces.{part}
 use Rattle.paper.specs.declared.Part.{Part}
 use Rattle.paper.specs.Judge.{View, view, head_in, next_in, pieces_of, image_stage}
-use Rattle.paper.specs.Calls.{accepts}
 use Rattle.paper.specs.declared.Verdict.{Verdict}
 use Rattle.pieces.specs.Spans.{no_span, span_of}
-use Rattle.layout.specs.Repeats.{no_further, further_of}
+use Rattle.layout.specs.Repeats.{further_of}
 use Rattle.image.specs.declared.Image.{Image}
 
 -- where the value of a tag stands; nowhere, with no byte, where the tag is absent
 unfoldable pub tag_part : ℕ → List Held → Part
 tag_part t hs = part (find t hs).entry.start (find t hs).entry.len
 
-abbrev pub no_part : Part
-no_part = part 0 0
-
 unfoldable pub image_in : View → ℕ → Image
 image_in v next =
     record {
-      verdict = verdict 0 0;
       big = v.head.big;
       width = value_of v.head.big Tag.width v.held;
       length = value_of v.head.big Tag.length v.held;
@@ -40,29 +35,6 @@ image_in v next =
       further = further_of v.head.at (map (λ h. h.entry) v.held);
     }
 
-abbrev pub no_image : Verdict → Image
-no_image w =
-    record {
-      verdict = w;
-      big = false;
-      width = 0;
-      length = 0;
-      at = 0;
-      next = 0;
-      span = no_span;
-      directory = no_part;
-      doubles = no_part;
-      characters = no_part;
-      scale = no_part;
-      tiepoint = no_part;
-      matrix = no_part;
-      metadata = no_part;
-      further = no_further;
-    }
-
--- what the verdict w of these rules lets be told of a view
-unfoldable pub image_by : Verdict → View → ℕ → Image
-image_by w v next = cond (accepts w) (image_in v next) (no_image w)
-
-unfoldable pub image_of : List ℕ → Image
-image_of f = image_by (image_stage f) (view f) (next_in f (head_in f))
+-- or the first broken rule
+unfoldable pub image_of : List ℕ → Result Image Verdict
+image_of f = ruled (image_stage f) (image_in (view f) (next_in f (head_in f)))

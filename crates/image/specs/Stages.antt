@@ -1,50 +1,57 @@
 -- What is known of a file after each stage of its image. Assumes nothing.
-use Rattle.std.specs.Prelude.{ℕ, ◌≡◌, Bool, cond, ◌&&◌, List, [], ◌∷◌, eqb, get_or}
+use Rattle.std.specs.Prelude.{ℕ, ◌≡◌, Bool, cond, List, [], ◌∷◌, Result, Ok}
+use Rattle.outcomes.specs.Ruled.{ruled}
 use Rattle.paper.specs.Outcome.{first}
-use Rattle.paper.specs.Tags.{table, tiled}
+use Rattle.paper.specs.Tags.{table}
+use Rattle.paper.specs.Pieces.{part}
 use Rattle.paper.specs.Judge.{View, pieces_of, full_of, piece_rules}
+use Rattle.paper.specs.declared.Entry.{Entry}
+use Rattle.paper.specs.declared.Part.{Part}
 use Rattle.paper.specs.declared.Verdict.{Verdict}
-use Rattle.pieces.specs.Spans.{no_span, span_of, placed}
-use Rattle.pieces.specs.declared.Placed.{Placed}
+use Rattle.pieces.specs.Spans.{no_span, span_of}
+use Rattle.pieces.specs.declared.Span.{Span}
 use Rattle.layout.specs.declared.Further.{Further}
-use Rattle.lines.specs.Ready.{held_at, Ready, Behind}
+use Rattle.lines.specs.Ready.{at_slot, Ready, Behind}
 use Rattle.tags.specs.Index
 use Rattle.tags.specs.Tagging.{view_of, tagged_of}
+use Rattle.tags.specs.declared.Pictured.{Pictured}
 
--- rules 1 to 7 are kept, and the columns and the further entries of 50909 are those of the directory
-pub record Passed (f : List ℕ) (big : Bool) (at c : ℕ) (typs counts starts lens : List ℕ) (r : Further) : Type 0 where
-  pub ready : Ready table f big at c typs counts starts lens
+-- rules 1 to 7 are kept, and the entries and the further ones of 50909 are those of the directory
+pub record Passed (f : List ℕ) (big : Bool) (at c : ℕ) (found : List Entry) (r : Further) : Type 0 where
+  pub ready : Ready table f big at c found
   pub behind : Behind f big at c r
 
--- rules 27 and 9 to 12 too, and the picture is in tiles or not
-pub record Fits (f : List ℕ) (big : Bool) (at c : ℕ) (t : Bool) (typs counts starts lens : List ℕ) (r : Further) : Type 0 where
-  pub passed : Passed f big at c typs counts starts lens r
-  pub twelve : (tagged_of (view_of table f big at c)).verdict.number ≡ 0
-  pub tiled_is : t ≡ tiled (held_at table f big at c)
+-- rules 27 and 9 to 12 too, and this is the picture
+pub record Fits (f : List ℕ) (big : Bool) (at c : ℕ) (p : Pictured) (found : List Entry) (r : Further) : Type 0 where
+  pub passed : Passed f big at c found r
+  pub pictured : Ok p ≡ tagged_of (view_of table f big at c)
 
 -- rules 13 and 14
 unfoldable pub pieces_judged : View → Verdict
 pieces_judged v = first (piece_rules (full_of v) v)
 
--- with the span of the pieces, where it is asked for
-unfoldable pub placed_in : Bool → View → Placed
-placed_in spanned v =
-    placed (pieces_judged v) (cond (spanned && eqb (pieces_judged v).number 0) (span_of (pieces_of v)) no_span)
+-- where they are kept the span of the pieces, if it is asked for
+unfoldable pub placed_in : Bool → View → Result Span Verdict
+placed_in spanned v = ruled (pieces_judged v) (cond spanned (span_of (pieces_of v)) no_span)
 
--- of a column of the table all but the tags with one SHORT or LONG, whose values stand in their entries, and of the slots that say where pieces lie a and
--- b alone; then a number for the head and one for the directory
-unfoldable pub outer_of : List ℕ → ℕ → ℕ → ℕ → ℕ → List ℕ
-outer_of xs a b head directory =
-    get_or xs Index.bits 0
-    ∷ get_or xs a 0
-    ∷ get_or xs b 0
-    ∷ get_or xs Index.scale 0
-    ∷ get_or xs Index.tiepoint 0
-    ∷ get_or xs Index.matrix 0
-    ∷ get_or xs Index.key_directory 0
-    ∷ get_or xs Index.doubles 0
-    ∷ get_or xs Index.characters 0
-    ∷ get_or xs Index.metadata 0
-    ∷ head
+-- where the value of an entry stands
+abbrev pub value_part : Entry → Part
+value_part e = part e.start e.len
+
+-- of the table's entries those of all tags but the ones with one SHORT or LONG, whose values stand in their entries, and of the slots that say where pieces
+-- lie a and b alone; then the head and the directory
+unfoldable pub outer_of : List Entry → ℕ → ℕ → Part → List Part
+outer_of es a b directory =
+    value_part (at_slot es Index.bits)
+    ∷ value_part (at_slot es a)
+    ∷ value_part (at_slot es b)
+    ∷ value_part (at_slot es Index.scale)
+    ∷ value_part (at_slot es Index.tiepoint)
+    ∷ value_part (at_slot es Index.matrix)
+    ∷ value_part (at_slot es Index.key_directory)
+    ∷ value_part (at_slot es Index.doubles)
+    ∷ value_part (at_slot es Index.characters)
+    ∷ value_part (at_slot es Index.metadata)
+    ∷ part 0 8
     ∷ directory
     ∷ []

@@ -2,18 +2,22 @@
 // may have, rule 28.
 #![tactic(auto)]
 
-ghost use Rattle.std.specs.Prelude.{◌≡◌};
+ghost use Rattle.std.specs.Prelude.{◌≡◌, Ok};
+ghost use Rattle.paper.specs.Judge.{mask_stage};
 ghost use Rattle.paper.specs.Calls.{judged_of};
-ghost use Rattle.judge.specs.Examining.{not_examined, examined_of, not_own, own_of};
+ghost use Rattle.outcomes.specs.Ruled.{ruled};
+ghost use Rattle.judge.specs.Examining.{examined_of, own_of, judged_by};
 
 use layout::Further;
-use paper::{Judged, Part, Verdict};
+use paper::{Corners, Georeference, Judged, Part, Verdict};
 use pieces::Span;
+use second::Known;
+use survey::Surveyed;
 
-// What one examination of a file finds: the judgement, and of the image what the other calls ask for.
+// What one examination of an accepted file finds: its survey, and of the image what the other calls ask for.
 #[derive(Clone, Copy)]
 pub struct Examined {
-    pub judged: Judged,
+    pub surveyed: Surveyed,
     pub big: bool,
     pub width: u32,
     pub length: u32,
@@ -34,49 +38,16 @@ pub struct Own {
     pub span: Span,
 }
 
-// What is answered for a refused file.
-fn refused(verdict: Verdict) -> Examined
-    ensures { result ≡ not_examined verdict }
-{
-    let none = Part { start: 0, len: 0 };
-    Examined {
-        judged: survey::not_judged(verdict),
-        big: false,
-        width: 0,
-        length: 0,
-        directory: none,
-        doubles: none,
-        characters: none,
-        metadata: none,
-        further: Further { start: 0, many: 0 },
-    }
-}
-
-// What is answered where one of the file's own rules is broken.
-fn refused_own(verdict: Verdict) -> Own
-    ensures { result ≡ not_own verdict }
-{
-    Own {
-        examined: refused(verdict),
-        at: 0,
-        next: 0,
-        span: Span { low: 0, high: 0 },
-    }
-}
-
 // What a file shows by its own rules, 1 to 22 and 27.
-fn examine_own(file: &[u8]) -> Own
+fn examine_own(file: &[u8]) -> Result<Own, Verdict>
     ensures { result ≡ own_of file.now }
 {
-    let i = image::judge_image(file);
-    if i.verdict.number != 0 {
-        return refused_own(i.verdict);
-    }
+    let i = image::judge_image(file)?;
     let directory = i.directory;
     let doubles = i.doubles;
     let characters = i.characters;
     let metadata = i.metadata;
-    let j = survey::judge_survey(
+    let surveyed = survey::judge_survey(
         i.big,
         layout::value(file, directory.start, directory.len),
         layout::value(file, doubles.start, doubles.len),
@@ -86,15 +57,12 @@ fn examine_own(file: &[u8]) -> Own
         layout::value(file, i.matrix.start, i.matrix.len),
         i.width,
         i.length,
-    );
-    if j.verdict.number != 0 {
-        return refused_own(j.verdict);
-    }
+    )?;
     let further = i.further;
     let span = i.span;
-    Own {
+    Ok(Own {
         examined: Examined {
-            judged: j,
+            surveyed,
             big: i.big,
             width: i.width,
             length: i.length,
@@ -107,35 +75,82 @@ fn examine_own(file: &[u8]) -> Own
         at: i.at,
         next: i.next,
         span,
-    }
+    })
 }
 
-// What it shows where its next offset leads to a mask.
-fn masked(file: &[u8], o: Own) -> Examined
-    requires { (o ≡ own_of file.now) × (o.next ≡ 0 → ⊥) }
-    ensures { result ≡ examined_of file.now }
+// Rule 28 of a file that keeps its own rules and whose next offset leads to a mask.
+fn masked(file: &[u8], o: &Own) -> Result<(), Verdict>
+    requires { (Ok o.now ≡ own_of file.now) × (o.now.next ≡ 0 → ⊥) }
+    ensures { result ≡ ruled (mask_stage file.now) tt }
 {
-    let e = o.examined;
-    let span = o.span;
-    let number = second::judge_mask(file, e.big, o.at, o.next, e.width, e.length, span);
-    if number != 0 {
-        return refused(Verdict {
+    let image = Known {
+        big: o.examined.big,
+        at: o.at,
+        next: o.next,
+        width: o.examined.width,
+        length: o.examined.length,
+        span: o.span,
+    };
+    match second::judge_mask(file, &image) {
+        Ok(()) => Ok(()),
+        Err(number) => Err(Verdict {
             number: 28,
             place: number,
-        });
+        }),
     }
-    e
 }
 
-// What a file shows: the whole judgement, and where the values stand that the other calls hand back.
-pub fn examine(file: &[u8]) -> Examined
+// What a file shows: the survey, and where the values stand that the other calls hand back.
+pub fn examine(file: &[u8]) -> Result<Examined, Verdict>
     ensures { result ≡ examined_of file.now }
 {
-    let o = examine_own(file);
-    if o.next == 0 {
-        return o.examined;
+    let o = examine_own(file)?;
+    if o.next != 0 {
+        masked(file, &o)?;
     }
-    masked(file, o)
+    Ok(o.examined)
+}
+
+// What is answered: of a refused file there is nothing beside the verdict.
+fn judged(found: Result<Examined, Verdict>) -> Judged
+    ensures { result ≡ judged_by found }
+{
+    match found {
+        Ok(e) => {
+            let s = e.surveyed;
+            let georeference = s.georeference;
+            let corners = s.corners;
+            Judged {
+                verdict: Verdict {
+                    number: 0,
+                    place: 0,
+                },
+                keys: s.keys,
+                minor: s.minor,
+                georeference,
+                corners,
+            }
+        }
+        Err(verdict) => Judged {
+            verdict,
+            keys: 0,
+            minor: 0,
+            georeference: Georeference::Scaled {
+                ti: 0.0,
+                tj: 0.0,
+                tx: 0.0,
+                ty: 0.0,
+                sx: 0.0,
+                sy: 0.0,
+            },
+            corners: Corners {
+                x0: 0.0,
+                y0: 0.0,
+                x1: 0.0,
+                y1: 0.0,
+            },
+        },
+    }
 }
 
 // The whole judgement: verdict and place, K, the minor revision, georeference and corners. It asks for both parts by itself: with two callers each of them is
@@ -143,11 +158,16 @@ pub fn examine(file: &[u8]) -> Examined
 pub fn judge(file: &[u8]) -> Judged
     ensures { result ≡ judged_of file.now }
 {
-    let o = examine_own(file);
-    if o.next == 0 {
-        let e = o.examined;
-        return e.judged;
+    match examine_own(file) {
+        Ok(o) => {
+            if o.next != 0 {
+                match masked(file, &o) {
+                    Ok(()) => {}
+                    Err(verdict) => return judged(Err(verdict)),
+                }
+            }
+            judged(Ok(o.examined))
+        }
+        Err(verdict) => judged(Err(verdict)),
     }
-    let e = masked(file, o);
-    e.judged
 }

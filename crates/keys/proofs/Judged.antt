@@ -1,29 +1,42 @@
--- What the judgement of the keys says in the paper's words: its verdict is that of rules 15 to 19, and with verdict 0 K, the minor revision and the raster
--- type are the directory's. Assumes nothing.
+-- What the judgement of the keys says in the paper's words: where rules 15 to 19 are kept K, the minor revision and the raster type are the directory's, and
+-- else their verdict is answered. Assumes nothing.
 use mathlib.Core.Path.{◌≡◌, refl}
 use mathlib.Core.Bool.{false}
 use mathlib.Core.List.{List}
 use Prim.Native.Nat.{ℕ}
-use lib.Dec.{eqb}
-use borrow.Author.Tests.{eq-eqb}
-use Rattle.paper.specs.Outcome.{first}
-use Rattle.paper.specs.Key
-use Rattle.paper.specs.Keys.{Runs, minor_revision, key_count, keys, key_value, key_rules}
+use borrow.Author.Tests.{ne_eqb}
+use Rattle.std.specs.Prelude.{Ok, Err}
+use Rattle.paper.specs.Outcome.{first, verdict}
+use Rattle.paper.specs.Keys.{Runs, key_rules}
 use Rattle.paper.specs.Calls.{reading_back, read_runs, back_of}
-use Rattle.keys.specs.Pass.{runs, keys_judged}
+use Rattle.paper.specs.declared.Verdict.{Verdict}
+use Rattle.paper.specs.Tests.{all}
+use Rattle.paper.proofs.First.{first-kept, kept-first}
+use Rattle.outcomes.proofs.Ruled.{found-ruled, broken-ruled}
+use Rattle.keys.specs.declared.KeysJudged.{KeysJudged}
+use Rattle.keys.specs.Pass.{runs, told_of, keys_judged}
 
-pub verdict-is : (r : Runs) → (keys_judged r).verdict ≡ first (key_rules r)
+pub judged-kept : (r : Runs) {k : KeysJudged} → Ok k ≡ keys_judged r → ((first (key_rules r)).number ≡ 0) × (k ≡ told_of r)
 unfolding keys_judged
-verdict-is r = refl
+judged-kept r h = found-ruled (first (key_rules r)) (told_of r) _ h
 
-pub accepted : (r : Runs) → (keys_judged r).verdict.number ≡ 0
-    → ((keys_judged r).keys ≡ key_count r) × ((keys_judged r).minor ≡ minor_revision r) × ((keys_judged r).point ≡ eqb (key_value Key.raster_type (keys r)) 2)
+pub judged-broken : (r : Runs) {v : Verdict} → Err v ≡ keys_judged r → ((first (key_rules r)).number ≡ 0 → ⊥) × (v ≡ first (key_rules r))
 unfolding keys_judged
-accepted r z = let e = eq-eqb (first (key_rules r)).number 0 z in (rw e, rw e, rw e)
+judged-broken r h = broken-ruled (first (key_rules r)) (told_of r) _ h
 
--- the call that reads a key block back
-pub read_back : (d x c : List ℕ)
-    → record { verdict = (keys_judged (runs false d x c)).verdict; keys = (keys_judged (runs false d x c)).keys; minor = (keys_judged (runs false d x c)).minor }
-    ≡ reading_back d x c
-unfolding keys_judged reading_back read_runs back_of
-read_back d x c = refl
+-- ---- the call that reads a key block back
+
+module _ (d x c : List ℕ) where
+  pub back-kept : {k : KeysJudged} → Ok k ≡ keys_judged (runs false d x c) → record { verdict = verdict 0 0; keys = k.keys; minor = k.minor } ≡ reading_back d x c
+  unfolding reading_back read_runs back_of key_rules all
+  back-kept h =
+      let r = runs false d x c in
+      let f = judged-kept r h in
+      let z : first (key_rules r) ≡ verdict 0 0 = first-kept (key_rules r) (kept-first (key_rules r) refl f.0) in
+      rw (f.1, z)
+
+  pub back-broken : {v : Verdict} → Err v ≡ keys_judged (runs false d x c) → record { verdict = v; keys = 0; minor = 0 } ≡ reading_back d x c
+  unfolding reading_back read_runs back_of
+  back-broken h =
+      let f = judged-broken (runs false d x c) h in
+      rw (f.1, ne_eqb (first (key_rules (runs false d x c))).number 0 f.0)

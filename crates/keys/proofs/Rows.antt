@@ -1,7 +1,6 @@
--- A key row at each location, as code makes it, and that its first byte and its entry are numbers below 2 ^ 32 where rule 17 is kept and the three
--- values lie below that. Assumes nothing.
+-- The first byte and the entry of a key row are numbers below 2 ^ 32 where rule 17 is kept and the three values lie below that. Assumes nothing.
 use Prim.Native.Nat.{ℕ, ◌+◌, ◌*◌, ◌≤◌, ◌<◌}
-use mathlib.Core.Path.{◌≡◌, refl, ap}
+use mathlib.Core.Path.{◌≡◌, refl}
 use mathlib.Core.Bool.{Bool, true, false, cond, ◌&&◌, ◌||◌}
 use mathlib.Core.List.{List}
 use native.Mathlib.Omega.{arith}
@@ -12,56 +11,14 @@ use borrow.Author.Tests.{eqb-true, eqb-false, ne_eqb, not-false}
 use Rattle.paper.specs.Tag
 use Rattle.paper.specs.Keys.{Runs, short, kind_of, room, within, in_entry, ends_in_bar, right_place, misplaced, key_at, minor_revision, key_count, keys, rule15, rule17, no_key_entry}
 use Rattle.paper.specs.Bytes.{build}
-use Rattle.paper.specs.Calls.{Starts, entry_place, row_of}
+use Rattle.paper.specs.Calls.{Starts, row_of}
 use Rattle.paper.specs.declared.KeyEntry.{KeyEntry}
-use Rattle.paper.specs.declared.Row.{Row}
 use Rattle.paper.specs.declared.Outcome.TheVariants.{Kept as kept}
 use Rattle.paper.proofs.Laws.{and-eq, kept-all, length-build, get_or-build}
 use Rattle.keys.specs.Pass.{runs}
 use Rattle.keys.specs.Rows.{RowAsked}
 use Rattle.keys.proofs.Head.{headed}
 use Rattle.keys.proofs.Placed.{within-gives}
-
--- ---- the row at each location: e as it was read, k as the table gave it
-
-module _ (s : Starts) (i : ℕ) (e e' : KeyEntry) (same : e ≡ e') where
-  abbrev row : ℕ → ℕ → ℕ → Row
-  row k first len = record { key = e.key; kind = k; first = first; len = len; entry = entry_place s i }
-
-  module _ (k : ℕ) (is-k : k ≡ kind_of e.key) (r : Row) where
-    pub entry_row : e.location ≡ 0 → r ≡ row k (entry_place s i + 6) 2 → r ≡ row_of s i e'
-    unfolding row_of
-    entry_row h q = rw (q, ← same, is-k, h)
-
-    pub directory-row : e.location ≡ Tag.key_directory → r ≡ row k (s.directory + 2 * e.index) (2 * e.count) → r ≡ row_of s i e'
-    unfolding row_of
-    directory-row h q = rw (q, ← same, is-k, h)
-
-    pub doubles-row : e.location ≡ Tag.doubles → r ≡ row k (s.doubles + 8 * e.index) (8 * e.count) → r ≡ row_of s i e'
-    unfolding row_of
-    doubles-row h q = rw (q, ← same, is-k, h)
-
-    pub characters-row : (e.location ≡ 0 → ⊥) → (e.location ≡ Tag.key_directory → ⊥) → (e.location ≡ Tag.doubles → ⊥)
-        → r ≡ row k (s.characters + e.index) e.count → r ≡ row_of s i e'
-    unfolding row_of
-    characters-row a b c q = rw (q, ← same, is-k, ne_eqb _ _ a, ne_eqb _ _ b, ne_eqb _ _ c)
-
-  -- its first byte n is below 2 ^ 32, where that of the entry's row is
-  module _ (low : (row_of s i e').first < 4294967296) (n : ℕ) where
-    below : (len : ℕ) → row (kind_of e.key) n len ≡ row_of s i e' → n < 4294967296
-    below len q = omega (arith, ap (λ (r : Row). r.first) q)
-
-    pub directory-low : e.location ≡ Tag.key_directory → n ≡ s.directory + 2 * e.index → n < 4294967296
-    directory-low h q = below (2 * e.count) (directory-row (kind_of e.key) refl (row _ n _) h (rw q))
-
-    pub doubles-low : e.location ≡ Tag.doubles → n ≡ s.doubles + 8 * e.index → n < 4294967296
-    doubles-low h q = below (8 * e.count) (doubles-row (kind_of e.key) refl (row _ n _) h (rw q))
-
-    pub characters-low : (e.location ≡ 0 → ⊥) → (e.location ≡ Tag.key_directory → ⊥) → (e.location ≡ Tag.doubles → ⊥) → n ≡ s.characters + e.index
-        → n < 4294967296
-    characters-low a b c q = below e.count (characters-row (kind_of e.key) refl (row _ n _) a b c (rw q))
-
--- ---- where rule 17 is kept
 
 -- a value that is not in its entry lies within the tag that its location names
 pub placed-within : (r : Runs) (e : KeyEntry) (k : ℕ) → right_place r e k ≡ true → (e.location ≡ 0 → ⊥) → within r e ≡ true

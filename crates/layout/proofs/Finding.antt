@@ -1,85 +1,85 @@
--- What a place says of the entry that is found, and the slot of a tag. Assumes nothing.
-use Prim.Native.Nat.{ℕ, zero, suc, ◌+◌, ◌-◌, ◌≤◌, ◌<◌, zero-le}
+-- The first entry of a tag, where there is one, and the slot of a tag. Assumes nothing.
+use Prim.Native.Nat.{ℕ, zero, suc, ◌+◌, ◌≤◌, ◌<◌}
 use mathlib.Core.Path.{◌≡◌, refl, sym, ap, ◌∙◌, subst}
-use mathlib.Core.Bool.{Bool, true, false, false≢true}
+use mathlib.Core.Bool.{Bool, true, false, cond, false≢true}
 use mathlib.Core.List.{List, [], ◌∷◌}
-use native.Mathlib.Nat.{not-suc-le-zero, zero-add}
+use mathlib.Core.Logic.{◌⊎◌, inl, inr}
+use native.Mathlib.Nat.{zero-add}
 use native.Mathlib.Omega.{arith}
-use native.Mathlib.Numerals.{add-one}
 use lib.Dec.{eqb, ltb}
 use lib.ListN.{length, get_or}
-use borrow.Author.Tests.{eqb-true, eq-eqb, ne_eqb, ltb-true}
+use borrow.Author.Tests.{eqb-true, eq-eqb, ltb-true}
+use Rattle.std.specs.Prelude.{Some, None, unwrap_or}
 use Rattle.paper.specs.Bytes.{build}
 use Rattle.paper.specs.Layout.{entry_at, entries}
 use Rattle.paper.specs.Tags.{absent}
 use Rattle.paper.specs.declared.Entry.{Entry}
 use Rattle.paper.specs.Tests.{all, index_of}
-use Rattle.paper.proofs.Laws.{and-eq, all-at, length-build, get_or-build}
 use Rattle.paper.proofs.Loops.{find_entry}
-use Rattle.layout.specs.Finding.{cell_of, in_cell, right, Celled, place_from, place_in, found_of}
+use Rattle.paper.proofs.Laws.{and-eq, all-at, length-build, get_or-build}
+use Rattle.layout.specs.declared.Cell.{Cell}
+use Rattle.layout.specs.Columns.{first_with}
+use Rattle.layout.specs.Finding.{cell_of, at_cell, in_cell, slot_in, right, Celled, found_in}
 
--- ---- a place found
+-- ---- the first entry of a tag
 
--- entries g i, g (i + 1), .., k of them: the first with tag t, by its place q
-record Placed (t : ℕ) (g : ℕ → Entry) (i k q : ℕ) : Type 0 where
-  low : i < q
-  high : q ≤ i + k
-  entry : find_entry t (build g i k) ≡ g (q - 1)
-  tag : (g (q - 1)).tag ≡ t
-
-placed-from : (t : ℕ) (g : ℕ → Entry) (i k : ℕ) → (place_from t i (build g i k) ≡ 0 → ⊥) → Placed t g i k (place_from t i (build g i k))
-unfolding place_from find_entry build
-placed-from t g i zero h = absurd (h refl)
-placed-from t g i (suc k) h = go (eqb (g i).tag t) refl (placed-from t g (suc i) k)
+-- the first entry of a tag is the one that the paper finds
+pub first-entry : (t : ℕ) (es : List Entry) → first_with t es ≡ find_entry t es
+unfolding first_with find_entry
+first-entry t [] = refl
+first-entry t (e ∷ es) = go (eqb e.tag t) refl (first-entry t es)
   where
-    go : (b : Bool) → eqb (g i).tag t ≡ b → ((place_from t (suc i) (build g (suc i) k) ≡ 0 → ⊥) → Placed t g (suc i) k (place_from t (suc i) (build g (suc i) k)))
-        → Placed t g i (suc k) (place_from t i (build g i (suc k)))
-    go true e ih =
-        let w : i + 1 - 1 ≡ i = omega arith in
-        rw e record { low = omega arith; high = omega arith; entry = rw (e, w); tag = rw w (eqb-true _ _ e) }
-    go false e ih =
-        let w : i + 1 ≡ suc i = add-one i in
-        let p = ih (rw (e, w) at h) in
-        rw (e, w) record { low = omega (arith, p.low); high = omega (arith, p.high); entry = rw e p.entry; tag = p.tag }
+    go : (b : Bool) → eqb e.tag t ≡ b → first_with t es ≡ find_entry t es → first_with t (e ∷ es) ≡ find_entry t (e ∷ es)
+    go true p h = rw p
+    go false p h = rw p h
 
-placed-none : (t i : ℕ) (es : List Entry) → place_from t i es ≡ 0 → find_entry t es ≡ absent.entry
-unfolding place_from find_entry
-placed-none t i [] h = refl
-placed-none t i (e ∷ es) h = go (eqb e.tag t) refl (placed-none t (i + 1) es)
+-- where there is none, it is the one of zeros
+pub found-first : (t : ℕ) (es : List Entry) → unwrap_or (found_in t es) absent.entry ≡ first_with t es
+unfolding found_in first_with
+found-first t [] = refl
+found-first t (e ∷ es) = go (eqb e.tag t) refl (found-first t es)
   where
-    go : (b : Bool) → eqb e.tag t ≡ b → (place_from t (i + 1) es ≡ 0 → find_entry t es ≡ absent.entry) → find_entry t (e ∷ es) ≡ absent.entry
-    go true q ih = let z : i + 1 ≡ 0 = rw q at h in absurd (omega arith)
-    go false q ih = rw q (ih (rw q at h))
+    go : (b : Bool) → eqb e.tag t ≡ b → unwrap_or (found_in t es) absent.entry ≡ first_with t es → unwrap_or (found_in t (e ∷ es)) absent.entry ≡ first_with t (e ∷ es)
+    go true p h = rw p
+    go false p h = rw p h
+
+-- entries g i, g (i + 1), .., k of them: the first with tag t is entry j
+record First (t : ℕ) (g : ℕ → Entry) (i k j : ℕ) : Type 0 where
+  low : i ≤ j
+  high : j < i + k
+  entry : first_with t (build g i k) ≡ g j
+  tag : (g j).tag ≡ t
+
+first-from : (t : ℕ) (g : ℕ → Entry) (i k : ℕ) → (first_with t (build g i k) ≡ absent.entry) ⊎ ((j : ℕ) × First t g i k j)
+unfolding first_with build
+first-from t g i zero = inl refl
+first-from t g i (suc k) = go (eqb (g i).tag t) refl (first-from t g (suc i) k)
+  where
+    go : (b : Bool) → eqb (g i).tag t ≡ b → ((first_with t (build g (suc i) k) ≡ absent.entry) ⊎ ((j : ℕ) × First t g (suc i) k j))
+        → ((first_with t (build g i (suc k)) ≡ absent.entry) ⊎ ((j : ℕ) × First t g i (suc k) j))
+    go true p h = inr (i, record { low = omega arith; high = omega arith; entry = rw p; tag = eqb-true _ _ p })
+    go false p (inl none) = inl (rw p none)
+    go false p (inr (j, f)) =
+        inr (j, record { low = omega (arith, f.low); high = omega (arith, f.high); entry = rw p f.entry; tag = f.tag })
 
 -- ---- for the functions that come after
 
--- p is the place of tag t in a directory of c entries: `found` gives its entry, the absent one where p is 0, and else entry p - 1
-pub record Found (t : ℕ) (big : Bool) (at c : ℕ) (dir : List ℕ) (p : ℕ) : Type 0 where
-  pub within : p ≤ c
-  pub found : found_of big at dir p ≡ find_entry t (entries big at c dir)
-  pub none : p ≡ 0 → find_entry t (entries big at c dir) ≡ absent.entry
-  pub entry : 0 < p → find_entry t (entries big at c dir) ≡ entry_at big at dir (p - 1)
-  pub tag : 0 < p → (find_entry t (entries big at c dir)).tag ≡ t
+-- the first entry with tag t of a directory of c entries is entry i
+pub record Placed (t : ℕ) (big : Bool) (at c : ℕ) (dir : List ℕ) (i : ℕ) : Type 0 where
+  pub low : i < c
+  pub entry : first_with t (entries big at c dir) ≡ entry_at big at dir i
+  pub tag : (entry_at big at dir i).tag ≡ t
 
-pub found-place : (t : ℕ) (big : Bool) (at c : ℕ) (dir : List ℕ) → Found t big at c dir (place_in t (entries big at c dir))
-unfolding found_of entries
-found-place t big at c dir = go (place_in t (build (entry_at big at dir) 0 c)) refl
+-- there is none, or it is one of them
+pub first-placed : (t : ℕ) (big : Bool) (at c : ℕ) (dir : List ℕ)
+    → (first_with t (entries big at c dir) ≡ absent.entry) ⊎ ((i : ℕ) × Placed t big at c dir i)
+unfolding entries
+first-placed t big at c dir = go (first-from t (entry_at big at dir) 0 c)
   where
-    go : (p : ℕ) → place_in t (build (entry_at big at dir) 0 c) ≡ p → Found t big at c dir p
-    go zero e =
-        let n : find_entry t (build (entry_at big at dir) 0 c) ≡ absent.entry = placed-none t 0 (build (entry_at big at dir) 0 c) e in
-        record { within = zero-le; found = sym n; none = λ z. n; entry = λ l. absurd (not-suc-le-zero l); tag = λ l. absurd (not-suc-le-zero l) }
-    go (suc p) e =
-        let s : place_in t (build (entry_at big at dir) 0 c) ≡ 0 → ⊥ = λ z. omega arith in
-        let r : Placed t (entry_at big at dir) 0 c (suc p) = subst (Placed t (entry_at big at dir) 0 c) e (placed-from t (entry_at big at dir) 0 c s) in
-        let z : suc p ≡ 0 → ⊥ = λ z. omega arith in
-        record {
-          within = omega (arith, r.high);
-          found = rw (ne_eqb (suc p) 0 z) (sym r.entry);
-          none = λ y. absurd (z y);
-          entry = λ l. r.entry;
-          tag = λ l. ap (λ (x : Entry). x.tag) r.entry ∙ r.tag;
-        }
+    go : ((first_with t (build (entry_at big at dir) 0 c) ≡ absent.entry) ⊎ ((j : ℕ) × First t (entry_at big at dir) 0 c j))
+        → ((first_with t (build (entry_at big at dir) 0 c) ≡ absent.entry) ⊎ ((i : ℕ) × Placed t big at c dir i))
+    go (inl none) = inl none
+    go (inr (j, f)) = inr (j, record { low = omega (arith, f.high); entry = f.entry; tag = f.tag })
 
 -- ---- the slot of a tag
 
@@ -99,23 +99,35 @@ passes_at ok n h c l =
     let e : get_or (build (λ (c : ℕ). c) 0 n) c 0 ≡ c = get_or-build (λ (c : ℕ). c) 0 0 n c l ∙ zero-add c in
     subst (λ (x : ℕ). ok x ≡ true) e (all-at ok (build (λ (c : ℕ). c) 0 n) 0 h c (subst (λ (m : ℕ). c < m) (sym (length-build (λ (c : ℕ). c) 0 n)) l))
 
-module _ {factor : ℕ} {cells slots ts : List ℕ} (is : Celled factor cells slots ts) where
-  -- a tag that does not stand in its cell is none of them
-  pub cell-none : (t : ℕ) → in_cell factor cells t ≡ false → length ts ≡ index_of t ts
-  cell-none t h = sym (none_passes (in_cell factor cells) ts t is.stand h)
-
+module _ {factor : ℕ} {cells : List Cell} {ts : List ℕ} (is : Celled factor cells ts) where
   cell-low : (t : ℕ) → cell_of factor t < 32
   unfolding cell_of
   cell-low t = omega arith
 
   -- the slot in the cell of a tag that stands there
-  pub cell-slot : (t : ℕ) → in_cell factor cells t ≡ true → (get_or slots (cell_of factor t) 0 ≡ index_of t ts) × (get_or slots (cell_of factor t) 0 < length ts)
+  held : (t : ℕ) → in_cell factor cells t ≡ true → ((at_cell factor cells t).slot ≡ index_of t ts) × ((at_cell factor cells t).slot < length ts)
   unfolding in_cell right
-  cell-slot t h =
-      let c = cell_of factor t in
-      let l : c < 32 = cell-low t in
-      let held : get_or cells (cell_of factor t) 0 ≡ t = eqb-true _ _ h in
-      let own : cell_of factor (get_or cells (cell_of factor t) 0) ≡ cell_of factor t = ap (cell_of factor) held in
-      let r : right factor cells slots ts (cell_of factor t) ≡ true = passes_at (right factor cells slots ts) 32 is.rights (cell_of factor t) l in
-      let both = and-eq (ltb (get_or slots (cell_of factor t) 0) (length ts)) _ (rw (eq-eqb _ _ own) at r) in
-      (eqb-true _ _ both.1 ∙ ap (λ (x : ℕ). index_of x ts) held, ltb-true _ _ both.0)
+  held t h =
+      let has : (at_cell factor cells t).tag ≡ t = eqb-true _ _ h in
+      let own : cell_of factor (at_cell factor cells t).tag ≡ cell_of factor t = ap (cell_of factor) has in
+      let r : right factor cells ts (cell_of factor t) ≡ true = passes_at (right factor cells ts) 32 is.rights (cell_of factor t) (cell-low t) in
+      let both = and-eq (ltb (at_cell factor cells t).slot (length ts)) _ (rw (eq-eqb _ _ own) at r) in
+      (eqb-true _ _ both.1 ∙ ap (λ (x : ℕ). index_of x ts) has, ltb-true _ _ both.0)
+
+  -- a tag that has no slot is none of them
+  pub slot-none : (t : ℕ) → slot_in factor cells t ≡ None → length ts ≤ index_of t ts
+  unfolding slot_in
+  slot-none t h = go (in_cell factor cells t) refl h
+    where
+      go : (b : Bool) → in_cell factor cells t ≡ b → cond b (Some (at_cell factor cells t).slot) None ≡ None → length ts ≤ index_of t ts
+      go true p h = cc
+      go false p h = omega (arith, none_passes (in_cell factor cells) ts t is.stand p)
+
+  -- and one that has is that of its slot
+  pub slot-some : (t : ℕ) {k : ℕ} → slot_in factor cells t ≡ Some k → (k ≡ index_of t ts) × (k < length ts)
+  unfolding slot_in
+  slot-some t {k} h = go (in_cell factor cells t) refl h
+    where
+      go : (b : Bool) → in_cell factor cells t ≡ b → cond b (Some (at_cell factor cells t).slot) None ≡ Some k → (k ≡ index_of t ts) × (k < length ts)
+      go true p h = let e : (at_cell factor cells t).slot ≡ k = cc in rw e at (held t p)
+      go false p h = cc

@@ -1,7 +1,9 @@
--- The laws of this crate, file by file: what callers lean on is in Opening, Finding and Values. Assumes nothing.
+-- The laws of this crate, file by file: what callers lean on is in Opening, Finding, Columns and Values. Assumes nothing.
 pub mod Sizes
 pub mod Opening
 pub mod Finding
+pub mod Columns
+pub mod Fronts
 pub mod Turns
 pub mod Values
 pub mod Stages

@@ -1,34 +1,14 @@
--- The size of an element, type by type, and rule 7 at one entry as code tests it: by the value's length first. Assumes nothing.
+-- The length of a value, and rule 7 at one entry as code tests it: by the value's length first. Assumes nothing.
 use Prim.Native.Nat.{ℕ, zero, suc, ◌+◌, ◌*◌, ◌≤◌, ◌<◌, zero-le, suc-le-suc}
-use mathlib.Core.Path.{◌≡◌, refl, sym}
+use mathlib.Core.Path.{◌≡◌, refl}
 use mathlib.Core.Bool.{Bool, true, false, ◌||◌}
 use mathlib.Core.List.{List}
-use native.Mathlib.Decide.{dec_le}
-use native.Mathlib.Nat.{zero-mul, mul-zero, mul-le-mul, lt_of_not-le}
+use native.Mathlib.Nat.{zero-mul, mul-zero, mul-le-mul}
 use native.Mathlib.Omega.{arith}
 use lib.Dec.{eqb, ltb}
 use borrow.Author.Tests.{lt-ltb, le-ltb, eq-eqb, ne_eqb, ltb-true}
 use Rattle.paper.specs.Layout.{odd, size_of, entry_of, bad_value}
 use Rattle.paper.specs.declared.Entry.{Entry}
-use Rattle.paper.proofs.Bounds.{size-past}
-
--- ---- a type other than 1 to 12
-
--- none of the six numbers after b
-below : (t b : ℕ) → t < b + 7 → (t ≡ b + 1 → ⊥) → (t ≡ b + 2 → ⊥) → (t ≡ b + 3 → ⊥) → (t ≡ b + 4 → ⊥) → (t ≡ b + 5 → ⊥) → (t ≡ b + 6 → ⊥) → t < b + 1
-below t b l n1 n2 n3 n4 n5 n6 = omega arith
-
-size-first : (t : ℕ) → t < 1 → size_of t ≡ 0
-unfolding size_of
-size-first t h = let e : t ≡ 0 = omega arith in rw e
-
-pub size-other : (t : ℕ) → (t ≡ 1 → ⊥) → (t ≡ 2 → ⊥) → (t ≡ 3 → ⊥) → (t ≡ 4 → ⊥) → (t ≡ 5 → ⊥) → (t ≡ 6 → ⊥) → (t ≡ 7 → ⊥) → (t ≡ 8 → ⊥)
-    → (t ≡ 9 → ⊥) → (t ≡ 10 → ⊥) → (t ≡ 11 → ⊥) → (t ≡ 12 → ⊥) → 0 ≡ size_of t
-size-other t n1 n2 n3 n4 n5 n6 n7 n8 n9 n10 n11 n12 = go (dec_le 13 t)
-  where
-    go : Dec (13 ≤ t) → 0 ≡ size_of t
-    go (yes p) = sym (size-past t p)
-    go (no q) = sym (size-first t (below t 0 (below t 6 (lt_of_not-le q) n7 n8 n9 n10 n11 n12) n1 n2 n3 n4 n5 n6))
 
 -- ---- the length of a value
 

@@ -1,106 +1,102 @@
 -- A file stage by stage up to rule 7, with any verdict behind: where a stage refuses, its verdict is the whole one; where none does, it is that of what the
 -- pass over the directory answered, and then the one behind. Assumes nothing.
-use Prim.Native.Nat.{ℕ, ◌+◌, ◌-◌, ◌*◌, ◌≤◌, ◌<◌}
-use mathlib.Core.Path.{◌≡◌, sym, ap, ◌∙◌}
+use Prim.Native.Nat.{ℕ, ◌+◌, ◌≤◌, ◌<◌}
+use mathlib.Core.Path.{◌≡◌, refl, sym, ap, ◌∙◌}
 use mathlib.Core.Bool.{Bool}
 use mathlib.Core.List.{List}
-use native.Mathlib.Nat.{add-sub_cancel_left}
 use native.Mathlib.Omega.{arith}
-use lib.ListN.{length, take, drop}
+use lib.ListN.{length}
+use Rattle.std.specs.Prelude.{Ok, Err}
 use Rattle.paper.specs.Bytes.{run}
-use Rattle.paper.specs.Outcome.{first, verdict, ◌▷◌}
+use Rattle.paper.specs.Outcome.{first, ◌▷◌}
 use Rattle.paper.specs.Layout.{dir_len, entries}
-use Rattle.paper.specs.Judge.{Head, head_in, dir_run, entries_in, entry_rules, head_stage, offset_stage, count_stage, entry_stage, directory_stage}
+use Rattle.paper.specs.Judge.{Head as Place, head_in, dir_run, entries_in, entry_rules, head_stage, offset_stage, count_stage, entry_stage, directory_stage}
 use Rattle.paper.specs.declared.Verdict.{Verdict}
 use Rattle.paper.proofs.First.{chain-zero, chain-stop, chain-turn}
 use Rattle.paper.proofs.Laws.{run-length-in}
 use Rattle.layout.specs.Opening.{headed_of, opened_of, scanned_of, LaidAt}
-use Rattle.layout.specs.declared.Headed.TheVariants.{Bad, Good}
-use Rattle.layout.specs.declared.Opened.TheVariants.{Refused}
+use Rattle.layout.specs.declared.Head.{Head}
+use Rattle.layout.specs.declared.Directory.{Directory}
 use Rattle.layout.specs.declared.Scanned.{Scanned}
-use Rattle.layout.proofs.Opening.{Heading, head-good, head-bad, Laying, laid, refused}
+use Rattle.outcomes.proofs.Ruled.{broken-ruled}
+use Rattle.layout.proofs.Opening.{Heading, head-good, Laying, laid, laid-place}
 
 -- the verdict of rules 1 to 7, and then v
 abbrev pub up_to7 : List ℕ → Verdict → Verdict
 up_to7 f v = head_stage f ▷ (directory_stage f (head_in f) ▷ v)
 
 -- a verdict that refuses
-pub record Refuses (whole : Verdict) (k p : ℕ) : Type 0 where
-  pub is : whole ≡ verdict k p
-  pub some : k ≡ 0 → ⊥
+pub record Refuses (whole e : Verdict) : Type 0 where
+  pub is : whole ≡ e
+  pub some : e.number ≡ 0 → ⊥
 
 module _ (f : List ℕ) (v : Verdict) where
   -- rules 1 to 3 refuse
-  pub head-refuses : {k p : ℕ} → headed_of f ≡ Bad k p → Refuses (head_stage f ▷ (directory_stage f (head_in f) ▷ v)) k p
-  head-refuses {k} {p} e =
-      let b = head-bad f k p e in
-      let n : (head_stage f).number ≡ 0 → ⊥ = λ z. b.some (ap (λ (x : Verdict). x.number) (sym b.whole) ∙ z) in
-      record { is = chain-stop (head_stage f) _ n ∙ b.whole; some = b.some }
+  pub head-refuses : {e : Verdict} → Err e ≡ headed_of f → Refuses (head_stage f ▷ (directory_stage f (head_in f) ▷ v)) e
+  unfolding headed_of
+  head-refuses {e} bad =
+      let b = broken-ruled (head_stage f) _ e bad in
+      rw b.1 record { is = chain-stop (head_stage f) _ b.0; some = b.0 }
 
-  module _ {big : Bool} {at : ℕ} (good : headed_of f ≡ Good big at) where
-    abbrev Start : Head
-    Start = record { size = length f; big = big; at = at }
+  module _ {h : Head} (good : Ok h ≡ headed_of f) where
+    abbrev Start : Place
+    Start = record { size = length f; big = h.big; at = h.at }
 
-    heading : Heading f big at
-    heading = head-good f big at good
+    heading : Heading f h.big h.at
+    heading = head-good f h good
 
     after-head : up_to7 f v ≡ directory_stage f Start ▷ v
-    after-head = chain-zero (head_stage f) _ heading.zero ∙ ap (λ (h : Head). directory_stage f h ▷ v) heading.head
+    after-head = chain-zero (head_stage f) _ heading.zero ∙ ap (λ (h : Place). directory_stage f h ▷ v) heading.head
 
     -- rules 4 and 5 refuse
-    pub open-refuses : {k p : ℕ} → opened_of f (record { size = length f; big = big; at = at }) ≡ Refused k p
-        → Refuses (head_stage f ▷ (directory_stage f (head_in f) ▷ v)) k p
-    unfolding directory_stage
-    open-refuses {k} {p} e =
-        let b = refused f Start k p e in
+    pub open-refuses : {e : Verdict} → Err e ≡ opened_of f (record { size = length f; big = h.big; at = h.at })
+        → Refuses (head_stage f ▷ (directory_stage f (head_in f) ▷ v)) e
+    unfolding opened_of directory_stage
+    open-refuses {e} bad =
         let w = offset_stage Start ▷ count_stage f Start in
-        let n : w.number ≡ 0 → ⊥ = λ z. b.some (ap (λ (x : Verdict). x.number) (sym b.whole) ∙ z) in
-        record {
+        let b = broken-ruled w _ e bad in
+        rw b.1 record {
           is =
               after-head
               ∙ ap (λ (x : Verdict). x ▷ v) (sym (chain-turn (offset_stage Start) (count_stage f Start) (entry_stage f Start)))
               ∙ chain-turn w (entry_stage f Start) _
-              ∙ chain-stop w _ n
-              ∙ b.whole;
-          some = b.some;
+              ∙ chain-stop w _ b.0;
+          some = b.0;
         }
 
+-- they do not, and so the directory is laid at its place
+pub laid-at : {f : List ℕ} {h : Head} {d : Directory} → Ok h ≡ headed_of f → Ok d ≡ opened_of f (record { size = length f; big = h.big; at = h.at })
+    → LaidAt f d.big d.at d.count
+laid-at {f} {h} {d} good opened =
+    let p = laid-place f (record { size = length f; big = h.big; at = h.at }) d opened in
+    rw (p.0, p.1) record { head = sym good; count = sym opened ∙ ap Ok (rw (p.0, p.1) refl) }
+
 module _ {f : List ℕ} {big : Bool} {at c : ℕ} (o : LaidAt f big at c) where
-  abbrev Place : Head
-  Place = record { size = length f; big = big; at = at }
+  abbrev Here : Place
+  Here = record { size = length f; big = big; at = at }
 
   abbrev Bytes : List ℕ
   Bytes = run f at (dir_len c)
 
   pub lay : Laying f (record { size = length f; big = big; at = at }) c
-  lay = laid f Place c o.count
+  lay = laid f Here (record { big = big; at = at; count = c }) (sym o.count)
 
   pub head-is : head_in f ≡ record { size = length f; big = big; at = at }
-  head-is = (head-good f big at o.head).head
+  head-is = (head-good f _ (sym o.head)).head
 
   pub file-size : length f ≤ 4294967295
-  file-size = (head-good f big at o.head).size
+  file-size = (head-good f _ (sym o.head)).size
 
-  -- the directory's part of the file, as it is cut out
-  pub part_cut : take (at + (2 + 12 * c + 4) - at) (drop at f) ≡ run f at (dir_len c)
-  part_cut = ap (λ (n : ℕ). take n (drop at f)) (add-sub_cancel_left at (2 + 12 * c + 4))
+  -- what the pass over the directory asks, where its bytes are s
+  pub scan-asked : {s : List ℕ} → s ≡ run f at (dir_len c)
+      → (dir_len c ≤ length s) × (0 < c) × (c ≤ 1024) × (at + dir_len c ≤ length f) × (length f ≤ 4294967295)
+  scan-asked {s} cut =
+      let e : length s ≡ dir_len c = ap length cut ∙ run-length-in f at (dir_len c) lay.whole in
+      (omega arith, lay.some, lay.few, lay.whole, file-size)
 
-  part_room : dir_len c ≤ length (take (at + (2 + 12 * c + 4) - at) (drop at f))
-  part_room =
-      let e : length (take (at + (2 + 12 * c + 4) - at) (drop at f)) ≡ dir_len c = ap length part_cut ∙ run-length-in f at (dir_len c) lay.whole in
-      omega arith
-
-  -- what the pass over the directory asks
-  pub scan-asked : (dir_len c ≤ length (take (at + (2 + 12 * c + 4) - at) (drop at f)))
-      × (0 < c)
-      × (c ≤ 1024)
-      × (at + dir_len c ≤ length f)
-      × (length f ≤ 4294967295)
-  scan-asked = (part_room, lay.some, lay.few, lay.whole, file-size)
-
-  entries-are : entry_stage f Place ≡ first (entry_rules Place (entries big at c Bytes))
+  entries-are : entry_stage f Here ≡ first (entry_rules Here (entries big at c Bytes))
   unfolding entry_stage entries_in dir_run
-  entries-are = ap (λ (k : ℕ). first (entry_rules Place (entries big at k (run f at (dir_len k))))) (sym lay.count)
+  entries-are = ap (λ (k : ℕ). first (entry_rules Here (entries big at k (run f at (dir_len k))))) (sym lay.count)
 
   -- and what it answered
   module _ {s : Scanned} (so : s ≡ scanned_of (record { size = length f; big = big; at = at }) c (run f at (dir_len c))) where
@@ -111,6 +107,6 @@ module _ {f : List ℕ} {big : Bool} {at c : ℕ} (o : LaidAt f big at c) where
     pub after-scan : (v : Verdict) → head_stage f ▷ (directory_stage f (head_in f) ▷ v) ≡ s.verdict ▷ v
     unfolding directory_stage
     after-scan v =
-        after-head f v o.head
+        after-head f v (sym o.head)
         ∙ ap (λ (x : Verdict). x ▷ v)
-        (chain-zero (offset_stage Place) _ lay.offset_zero ∙ chain-zero (count_stage f Place) _ lay.count_zero ∙ entries-are ∙ sym verdict-is)
+        (chain-zero (offset_stage Here) _ lay.offset_zero ∙ chain-zero (count_stage f Here) _ lay.count_zero ∙ entries-are ∙ sym verdict-is)

@@ -1,13 +1,13 @@
 -- What a pass with verdict 0 says of values: each entry's value lies in the file, and what `value` hands back is what the rules after 8
 -- call the tag's bytes. Assumes nothing.
-use Prim.Native.Nat.{ℕ, zero, suc, ◌+◌, ◌-◌, ◌*◌, ◌≤◌, ◌<◌, zero-le}
+use Prim.Native.Nat.{ℕ, zero, suc, ◌+◌, ◌*◌, ◌≤◌, ◌<◌}
 use mathlib.Core.Path.{◌≡◌, refl, sym, ap, ◌∙◌}
 use mathlib.Core.Bool.{Bool, true, false}
 use mathlib.Core.List.{List, map}
 use native.Mathlib.Nat.{zero-mul}
 use native.Mathlib.Omega.{arith}
 use lib.Dec.{eqb}
-use borrow.Author.Tests.{eqb-true, ne_eqb, ltb-false}
+use borrow.Author.Tests.{eqb-true, ltb-false}
 use Rattle.paper.specs.Bytes.{run, num, build}
 use Rattle.paper.specs.Outcome.{first}
 use Rattle.paper.specs.declared.Outcome.TheVariants.{Kept as kept}
@@ -17,10 +17,9 @@ use Rattle.paper.specs.Layout.{dir_len, size_of, start_of, entry_of, entry_at, e
 use Rattle.paper.specs.Tests.{all}
 use Rattle.paper.specs.Tags.{Line, in_table, listed, hold, find, bytes_of}
 use Rattle.paper.specs.Judge.{Head, entry_rules}
-use Rattle.paper.proofs.Loops.{find_entry}
 use Rattle.paper.proofs.Bounds.{entry-inside}
 use Rattle.paper.proofs.First.{kept-first}
-use Rattle.layout.specs.Finding.{found_of}
+use Rattle.layout.specs.Columns.{first_with}
 
 -- where the verdict v of rules 6 and 7 is 0, both are kept
 module _ (h : Head) (es : List Entry) {v : Verdict} (is-v : v ≡ first (entry_rules h es)) (zero : v.number ≡ 0) where
@@ -60,23 +59,14 @@ module _ (n at c : ℕ) (big : Bool) (dir : List ℕ) (low : 8 ≤ at) (fits : a
           let z = untyped-len big at dir (2 + 12 * i) q in
           omega (arith, z, empty-start big at dir (2 + 12 * i) z)
 
-  -- of the entry of any place
-  pub place-within : (p : ℕ) → p ≤ c → (found_of big at dir p).start + (found_of big at dir p).len ≤ n
-  unfolding found_of
-  place-within zero l = zero-le
-  place-within (suc q) l =
-      let z : suc q ≡ 0 → ⊥ = λ y. omega arith in
-      let w : suc q - 1 ≡ q = omega arith in
-      rw (ne_eqb (suc q) 0 z, w) (entry-within q l)
-
 -- ---- the bytes of a tag of the table are the run that its entry names; with no entry they are none
 
 module _ (tb : List Line) (f : List ℕ) (t : ℕ) (m : in_table tb t ≡ true) where
   abbrev Named : List Entry → Type 0
-  Named es = (find t (map (hold tb f) es)).bytes ≡ run f (find_entry t es).start (find_entry t es).len
+  Named es = (find t (map (hold tb f) es)).bytes ≡ run f (first_with t es).start (first_with t es).len
 
   bytes-from : (g : ℕ → Entry) → ((j : ℕ) → typed (g j) ≡ false → (g j).len ≡ 0) → (i k : ℕ) → Named (build g i k)
-  unfolding build find find_entry hold listed
+  unfolding build find first_with hold listed
   bytes-from g u i zero = refl
   bytes-from g u i (suc k) = go (eqb (g i).tag t) refl (typed (g i)) refl (bytes-from g u (suc i) k)
     where
@@ -90,6 +80,6 @@ module _ (tb : List Line) (f : List ℕ) (t : ℕ) (m : in_table tb t ≡ true) 
       go false q false y r = rw q r
 
 pub found-bytes : (tb : List Line) (f : List ℕ) (t : ℕ) (big : Bool) (at c : ℕ) (dir : List ℕ) → in_table tb t ≡ true
-    → bytes_of t (map (hold tb f) (entries big at c dir)) ≡ run f (find_entry t (entries big at c dir)).start (find_entry t (entries big at c dir)).len
+    → bytes_of t (map (hold tb f) (entries big at c dir)) ≡ run f (first_with t (entries big at c dir)).start (first_with t (entries big at c dir)).len
 unfolding entries
 found-bytes tb f t big at c dir m = bytes-from tb f t m (entry_at big at dir) (λ j. untyped-len big at dir (2 + 12 * j)) 0 c

@@ -3,41 +3,52 @@
 // the caller's table, which a second caller would undo: a directory that few files have is judged by the plainer `judge_entries` and `find`.
 #![tactic(auto)]
 
-ghost use Rattle.std.specs.Prelude.{◌≡◌, not, ◌||◌, [], map, ℕ, ◌+◌, ◌*◌, ◌≤◌, ◌<◌, ltb, length, get_or};
+ghost use Rattle.std.specs.Prelude.{◌≡◌, not, ◌||◌, [], map, ◌+◌, ◌*◌, ◌≤◌, ◌<◌, ltb, length};
 ghost use Rattle.paper.specs.Bytes.{run};
-ghost use Rattle.paper.specs.declared.Outcome.TheVariants.{Kept as kept};
-ghost use Rattle.paper.specs.Outcome.{ascending};
-ghost use Rattle.paper.specs.Layout.{odd, is_big, dir_len, rule2, size_of, entry_of, entries, behind, bad_value, rule7};
-ghost use Rattle.outcomes.specs.Told.{told_by};
-ghost use Rattle.layout.specs.Opening.{marked_of, headed_of, counted_of, opened_of, scanned_of, concluded_of, OrderedAs};
-ghost use Rattle.layout.specs.Finding.{cell_of, in_cell, slot_tags, Celled, place_in};
-ghost use Rattle.layout.specs.Columns.{Columns};
+ghost use Rattle.paper.specs.Outcome.{ascending, verdict};
+ghost use Rattle.paper.specs.Layout.{odd, marked, dir_len, size_of, entry_of, entries, behind, bad_value, rule7};
+ghost use Rattle.layout.specs.Opening.{headed_of, opened_of, Lent, scanned_of, ordered_of, concluded_of};
+ghost use Rattle.layout.specs.Finding.{slot_in, slot_tags, Celled, found_in};
+ghost use Rattle.layout.specs.Columns.{firsts};
 
-use paper::{Entry, Verdict};
+use paper::{Entry, Outcome, Verdict};
 
-// What rules 1 to 3 answer: the number and place of the first broken one, or whether the file is big-endian and the directory's offset.
+// What a head that keeps rules 1 to 3 says: whether the file is big-endian, and the directory's offset.
 #[derive(Clone, Copy)]
-pub enum Headed {
-    Bad(u32, u32),
-    Good(bool, u32),
+pub struct Head {
+    pub big: bool,
+    pub at: u32,
 }
 
-// What rules 4 and 5 answer for a directory at an offset: the number and place of the first broken one, or its count.
+// A directory of so many entries at a place of a file. It keeps no fact of its numbers: a definition that tells a directory would have to prove it.
 #[derive(Clone, Copy)]
-pub enum Opened {
-    Refused(u32, u32),
-    Laid(usize),
+pub struct Directory {
+    pub big: bool,
+    pub at: usize,
+    pub count: usize,
 }
 
 // Where the entries of tag 50909 stand behind the first of them: where the second starts in the file, and how many there are from it on. Both are 0
-// where there is at most one.
+// where there is at most one. It is no Option: what goes through the further entries goes through none of them as well.
 #[derive(Clone, Copy)]
 pub struct Further {
     pub start: usize,
     pub many: usize,
 }
 
-// What rules 6 and 7 answer for a directory, its next offset, and where rule 6 is kept the further entries of 50909.
+const NO_FURTHER: Further = Further { start: 0, many: 0 };
+
+// An entry of zeros, which stands for that of a tag with none, here as in the definitions (`Tags.absent`).
+pub const ABSENT: Entry = Entry {
+    tag: 0,
+    typ: 0,
+    count: 0,
+    start: 0,
+    len: 0,
+};
+
+// What rules 6 and 7 answer for a directory, its next offset, and where rule 6 is kept the further entries of 50909. It is no `Result`: the next offset and
+// the further entries are told on a refusal too.
 #[derive(Clone, Copy)]
 pub struct Scanned {
     pub verdict: Verdict,
@@ -45,17 +56,19 @@ pub struct Scanned {
     pub further: Further,
 }
 
-// What rule 6 says, as a number, and where it is kept the further entries of 50909.
+// What rule 6 says, and where it is kept the further entries of 50909.
 #[derive(Clone, Copy)]
-pub struct Ordered {
-    pub six: usize,
-    pub further: Further,
+struct Ordered {
+    six: Outcome,
+    further: Further,
 }
 
 // The tag of a metadata text, the one that may stand more than once.
 const METADATA: usize = 50909;
 
-// The size of an element of a type; 0 for a type other than 1 to 12.
+// The size of an element of a type; 0 for a type other than 1 to 12. Types of one size joined by `|`, or a list of the sizes, cost an entry three to five
+// instructions more.
+#[tactic(auto, unfolding(paper::specs::Layout::size_of))]
 pub fn size_of(typ: usize) -> usize
     ensures { (result ≡ size_of typ) × (result ≤ 8) }
 {
@@ -106,6 +119,16 @@ pub fn entry_at(dir: &[u8], big: bool, at: usize, p: usize) -> Entry
     }
 }
 
+impl Directory {
+    // Its bytes, a part of the file: the count, the entries, the next offset.
+    pub fn bytes<'a>(self, file: &'a [u8]) -> &'a [u8]
+        requires { self.at + dir_len self.count ≤ length file.now }
+        ensures { result.now ≡ run file.now self.at (dir_len self.count) }
+    {
+        value(file, self.at, 2 + 12 * self.count + 4)
+    }
+}
+
 // Whether a run of the file starts odd, below 8 or ends past n.
 fn is_misplaced(start: usize, len: usize, n: usize) -> bool
     requires { (start < 4294979604) × (len ≤ 34359738360) }
@@ -120,77 +143,60 @@ fn is_misplaced(start: usize, len: usize, n: usize) -> bool
     n < start + len
 }
 
-// Rule 3 of a head in its byte order.
-fn read_marked(head: &[u8], big: bool) -> Headed
-    requires { (8 ≤ length head.now) × (rule2 head.now ≡ kept) × (is_big head.now ≡ big) }
-    ensures { result ≡ marked_of head.now }
+// A rule is broken, and shows no place.
+fn broken(number: u32) -> Verdict
+    ensures { result ≡ verdict number 0 }
 {
-    if order::short(head, big, 2) != 42 {
-        return Headed::Bad(3, 0);
-    }
-    Headed::Good(big, order::long(head, big, 4) as u32)
+    Verdict { number, place: 0 }
 }
 
-// Rules 2 and 3, over the first 8 bytes of a file.
-fn read_mark(head: &[u8]) -> Headed
+// Whether the first two bytes of a head are a mark.
+fn is_marked(head: &[u8], mark: u8) -> bool
     requires { 8 ≤ length head.now }
-    ensures { result ≡ marked_of head.now }
+    ensures { result ≡ marked head.now mark }
 {
-    let mark = head[0];
-    if head[1] != mark {
-        return Headed::Bad(2, 0);
-    }
-    if mark == 0x49 {
-        return read_marked(head, false);
-    }
-    if mark == 0x4D {
-        return read_marked(head, true);
-    }
-    Headed::Bad(2, 0)
+    (head[0] == mark) & (head[1] == mark)
 }
 
 // Rules 1 to 3.
-pub fn read_head(file: &[u8]) -> Headed
+#[tactic(auto, unfolding(crate::specs::Opening::headed_of, outcomes::specs::Ruled::ruled, paper::specs::Judge::head_stage, paper::specs::Judge::head_rules, paper::specs::Judge::head_run, paper::specs::Judge::head_in, paper::specs::Judge::head_of, paper::specs::Outcome::first, paper::specs::Layout::rule1, paper::specs::Layout::rule2, paper::specs::Layout::rule3, paper::specs::Layout::dir_at))]
+pub fn read_head(file: &[u8]) -> Result<Head, Verdict>
     ensures { result ≡ headed_of file.now }
 {
     let n = file.len();
-    if n < 8 {
-        return Headed::Bad(1, 0);
+    if (n < 8) | (4294967295 < n) {
+        return Err(broken(1));
     }
-    if 4294967295 < n {
-        return Headed::Bad(1, 0);
+    let head = &file[..8];
+    if !(is_marked(head, b'I') | is_marked(head, b'M')) {
+        return Err(broken(2));
     }
-    read_mark(&file[..8])
+    let big = head[0] == b'M';
+    if order::short(head, big, 2) != 42 {
+        return Err(broken(3));
+    }
+    Ok(Head {
+        big,
+        at: order::long(head, big, 4) as u32,
+    })
 }
 
-// Rule 5, of a directory that starts at a place.
-fn read_count(file: &[u8], big: bool, at: usize) -> Opened
-    requires { (at + 2 ≤ length file.now) × (length file.now ≤ 4294967295) }
-    ensures { result ≡ counted_of file.now (record { size = length file.now; big = big; at = at }) }
-{
-    let c = order::short(value(file, at, 2), big, 0);
-    if c == 0 {
-        return Opened::Refused(5, 0);
-    }
-    if 1024 < c {
-        return Opened::Refused(5, 0);
-    }
-    if file.len() < at + (2 + 12 * c + 4) {
-        return Opened::Refused(5, 0);
-    }
-    Opened::Laid(c)
-}
-
-// Rules 4 and 5, of a directory at an offset.
-pub fn open(file: &[u8], big: bool, at: u32) -> Opened
+// Rules 4 and 5, of the directory that a head names.
+pub fn open(file: &[u8], head: Head) -> Result<Directory, Verdict>
     requires { length file.now ≤ 4294967295 }
-    ensures { result ≡ opened_of file.now (record { size = length file.now; big = big; at = at }) }
+    ensures { result ≡ opened_of file.now (record { size = length file.now; big = head.big; at = head.at }) }
 {
-    let start = at as usize;
-    if is_misplaced(start, 2, file.len()) {
-        return Opened::Refused(4, 0);
+    let n = file.len();
+    let big = head.big;
+    let at = head.at as usize;
+    if is_misplaced(at, 2, n) {
+        return Err(broken(4));
     }
-    read_count(file, big, start)
+    let count = order::short(file, big, at);
+    if (count == 0) | (1024 < count) | (n < at + (2 + 12 * count + 4)) {
+        return Err(broken(5));
+    }
+    Ok(Directory { big, at, count })
 }
 
 // Rule 7 at one entry.
@@ -210,47 +216,25 @@ fn bad_value(e: Entry, n: usize) -> bool
 // How many cells a table has for its tags.
 pub const CELLS: usize = 32;
 
-// The cell of a tag. A table has a factor for which no two of its tags share one.
-fn cell_of(factor: usize, tag: usize) -> usize
-    requires { (factor < 65536) × (tag < 65536) }
-    ensures { (result ≡ cell_of factor tag) × (result < 32) }
-{
-    tag * factor / 256 % CELLS
+// A cell of a table: a tag, and its slot in what a pass finds. Where none of the table's tags stands, it is a tag of another cell.
+#[derive(Clone, Copy)]
+pub struct Cell {
+    pub tag: u16,
+    pub slot: u8,
 }
 
-// A tag of a cell.
-fn wide(tag: u16) -> usize
-    ensures { result ≡ tag }
+// The slot of a tag, where it is in the table: it stands in its cell. A table has a factor for which no two of its tags share one.
+#[tactic(auto, unfolding(crate::specs::Finding::slot_in, crate::specs::Finding::in_cell, crate::specs::Finding::cell_of))]
+fn slot_of(cells: &[Cell; CELLS], factor: u16, tag: usize) -> Option<u8>
+    requires { tag < 65536 }
+    ensures { result ≡ slot_in factor cells.now tag }
 {
-    tag as usize
-}
-
-// A slot of a cell.
-fn wide_slot(slot: u8) -> usize
-    ensures { (result ≡ slot) × (result < 256) }
-{
-    slot as usize
-}
-
-// Whether a tag is in the table: it stands in its cell.
-fn is_listed(cells: &[u16; CELLS], factor: usize, tag: usize) -> bool
-    requires { (factor < 65536) × (tag < 65536) }
-    ensures { result ≡ in_cell factor cells.now tag }
-{
-    let cell = cell_of(factor, tag);
-    wide(cells[cell]) == tag
-}
-
-// The slot of a tag of the table.
-fn slot_of(slots: &[u8; CELLS], factor: usize, tag: usize) -> usize
-    requires { (factor < 65536) × (tag < 65536) }
-    ensures { (result ≡ get_or slots.now (cell_of factor tag) 0) × (result < 256) }
-{
-    let cell = cell_of(factor, tag);
-    wide_slot(slots[cell])
+    let cell = cells[tag * usize::from(factor) / 256 % CELLS];
+    (usize::from(cell.tag) == tag).then_some(cell.slot)
 }
 
 // Whether a tag may not stand in front of the next one.
+#[tactic(auto, unfolding(paper::specs::Layout::behind))]
 fn is_out_of_order(tag: usize, next: usize) -> bool
     ensures { result ≡ not (behind tag next) }
 {
@@ -265,158 +249,143 @@ fn is_out_of_order(tag: usize, next: usize) -> bool
 
 // Rule 6 and the further entries of 50909, in one pass from the last entry to the first. A directory that `scan` passed over comes here only where a 50909
 // is not above the tag before it.
-fn order_again(dir: &[u8], big: bool, at: usize, c: usize) -> Ordered
-    requires { (dir_len c ≤ length dir.now) × (c ≤ 1024) × (at < 4294967296) }
-    ensures { OrderedAs (entries big at c dir.now) at result }
+fn order_again(dir: &[u8], d: Directory) -> Ordered
+    requires { Lent d dir.now }
+    ensures { result ≡ ordered_of (entries d.big d.at d.count dir.now) d.at }
 {
-    let mut six = outcomes::NONE;
+    // The tag behind the last entry is a number above every SHORT here, as in `scan`.
+    let mut six = Outcome::Kept;
     let mut next = outcomes::NONE;
     let mut first = 0;
     let mut many = 0;
-    let mut i = c;
-    while 0 < i {
-        i -= 1;
-        let tag = order::short(dir, big, 2 + 12 * i);
-        six = outcomes::broken_or(is_out_of_order(tag, next), next, six);
+    for i in (0..d.count).rev() {
+        let tag = order::short(dir, d.big, 2 + 12 * i);
+        if is_out_of_order(tag, next) {
+            six = Outcome::Broken(next as u32);
+        }
         next = tag;
         if tag == METADATA {
             first = i;
             many += 1;
         }
     }
-    if (six != outcomes::NONE) | (many < 2) {
-        return Ordered {
-            six,
-            further: Further { start: 0, many: 0 },
-        };
+    if let Outcome::Kept = six {
+        if 1 < many {
+            let further = Further {
+                start: d.at + (2 + 12 * (first + 1)),
+                many: many - 1,
+            };
+            return Ordered { six, further };
+        }
     }
     Ordered {
         six,
-        further: Further {
-            start: at + (2 + 12 * (first + 1)),
-            many: many - 1,
-        },
+        further: NO_FURTHER,
     }
 }
 
 // Rule 6, where it is known of the tags whether they ascend: only a first fault at 50909 need be none.
-fn judge_order(dir: &[u8], big: bool, at: usize, c: usize, six: usize) -> Ordered
-    requires { (dir_len c ≤ length dir.now) × (c ≤ 1024) × (at < 4294967296) × (six ≤ 65536) × (told_by six ≡ ascending (map (λ e. e.tag) (entries big at c dir.now))) }
-    ensures { OrderedAs (entries big at c dir.now) at result }
+fn judge_order(dir: &[u8], d: Directory, six: Outcome) -> Ordered
+    requires { Lent d dir.now × (six ≡ ascending (map (λ e. e.tag) (entries d.big d.at d.count dir.now))) }
+    ensures { result ≡ ordered_of (entries d.big d.at d.count dir.now) d.at }
 {
-    if six != METADATA {
-        return Ordered {
-            six,
-            further: Further { start: 0, many: 0 },
-        };
+    if let Outcome::Broken(place) = six {
+        if place as usize == METADATA {
+            return order_again(dir, d);
+        }
     }
-    order_again(dir, big, at, c)
+    Ordered {
+        six,
+        further: NO_FURTHER,
+    }
 }
 
-// What rules 6 and 7 answer, where it is known of each as a number, and the next offset.
-fn conclude(dir: &[u8], big: bool, c: usize, o: Ordered, seven: usize) -> Scanned
-    requires { (dir_len c ≤ length dir.now) × (c ≤ 1024) × (o.six ≤ 65536) × (seven ≤ 65536) }
-    ensures { result ≡ concluded_of big c dir.now o seven }
+// What is answered where rules 6 and 7 are judged.
+#[tactic(auto, unfolding(crate::specs::Opening::concluded_of, paper::specs::Layout::next_offset))]
+fn conclude(dir: &[u8], d: Directory, o: Ordered, seven: Outcome) -> Scanned
+    requires { Lent d dir.now }
+    ensures { result ≡ concluded_of d.big d.count dir.now o seven }
 {
-    let further = o.further;
     let none = Verdict {
         number: 0,
         place: 0,
     };
-    let last = outcomes::or_else(7, outcomes::told(seven), none);
     Scanned {
-        verdict: outcomes::or_else(6, outcomes::told(o.six), last),
-        next: order::long(dir, big, 2 + 12 * c) as u32,
-        further,
+        verdict: outcomes::or_else(6, o.six, outcomes::or_else(7, seven, none)),
+        next: order::long(dir, d.big, 2 + 12 * d.count) as u32,
+        further: o.further,
     }
 }
 
-// Rules 6 and 7, the next offset, and a column of each field of a table's tags, in one pass from the last entry to the first: at each turn all is known
-// of the entries from i on. The table is given by the cells of its tags, the slot of each cell's tag and the factor that finds a cell; the columns have
-// a number for each slot, and are lent as those of no entry.
+// Rules 6 and 7, the next offset, and the first entry of each tag of a table, in one pass from the last entry to the first: at each turn all is known of
+// the entries from i on. What is found has an entry for each slot, and is lent as that of no entry. The cells and the factor come apart: in a struct the
+// cells would be built on the stack for each file, which takes 70 instructions.
 pub fn scan(
-    cells: &[u16; CELLS],
-    slots: &[u8; CELLS],
-    factor: usize,
+    cells: &[Cell; CELLS],
+    factor: u16,
     dir: &[u8],
-    big: bool,
-    at: usize,
-    c: usize,
+    d: Directory,
     n: usize,
-    typs: &mut [u32],
-    counts: &mut [u32],
-    starts: &mut [usize],
-    lens: &mut [usize],
+    found: &mut [Entry],
 ) -> Scanned
-    requires { (dir_len c ≤ length dir.now) × (0 < c) × (c ≤ 1024) × (at + dir_len c ≤ n) × (n ≤ 4294967295) × (factor < 65536) × Celled factor cells.now slots.now (slot_tags cells.now slots.now (length typs.old)) × Columns (slot_tags cells.now slots.now (length typs.old)) [] typs.old counts.old starts.old lens.old }
-    ensures scanned { result ≡ scanned_of (record { size = n; big = big; at = at }) c dir.now }
-    ensures columns { Columns (slot_tags cells.now slots.now (length typs.old)) (entries big at c dir.now) typs.new counts.new starts.new lens.new }
+    requires { (dir_len d.count ≤ length dir.now) × (0 < d.count) × (d.count ≤ 1024) × (d.at + dir_len d.count ≤ n) × (n ≤ 4294967295) × Celled factor cells.now (slot_tags cells.now (length found.old)) × (found.old ≡ firsts (slot_tags cells.now (length found.old)) []) }
+    ensures scanned { result ≡ scanned_of (record { size = n; big = d.big; at = d.at }) d.count dir.now }
+    ensures columns { found.new ≡ firsts (slot_tags cells.now (length found.old)) (entries d.big d.at d.count dir.now) }
 {
+    // What is known of a rule is a number here: with an `Outcome` an entry takes four instructions more, with a flag two.
     let mut six = outcomes::NONE;
     let mut seven = outcomes::NONE;
     let mut next = outcomes::NONE;
-    let mut i = c;
-    while 0 < i {
-        i -= 1;
-        let e = entry_at(dir, big, at, 2 + 12 * i);
+    for i in (0..d.count).rev() {
+        let e = entry_at(dir, d.big, d.at, 2 + 12 * i);
         // Whether the tags ascend: a tag is below the next one.
         six = outcomes::broken_or(next <= e.tag, next, six);
         next = e.tag;
         // Rule 7: the count is not 0, and the value lies in the file.
         seven = outcomes::broken_or(bad_value(e, n), e.tag, seven);
-        if is_listed(cells, factor, e.tag) {
-            let k = slot_of(slots, factor, e.tag);
-            typs[k] = e.typ as u32;
-            counts[k] = e.count as u32;
-            starts[k] = e.start;
-            lens[k] = e.len;
+        if let Some(k) = slot_of(cells, factor, e.tag) {
+            found[usize::from(k)] = e;
         }
     }
-    let o = judge_order(dir, big, at, c, six);
-    conclude(dir, big, c, o, seven)
+    let o = judge_order(dir, d, outcomes::told(six));
+    conclude(dir, d, o, outcomes::told(seven))
 }
 
 // ---- a directory that few files have
 
-// One more than the index of the first entry of a tag, 0 where there is none.
-pub fn find(dir: &[u8], big: bool, c: usize, tag: usize) -> usize
-    requires { (dir_len c ≤ length dir.now) × (c ≤ 1024) }
-    ensures { ((at : ℕ) → result ≡ place_in tag (entries big at c dir.now)) × (result ≤ c) }
+// The first entry of a tag. Of the others their tags alone are read.
+pub fn find(dir: &[u8], d: Directory, tag: usize) -> Option<Entry>
+    requires { Lent d dir.now }
+    ensures { result ≡ found_in tag (entries d.big d.at d.count dir.now) }
 {
-    let mut i = 0;
-    while i < c {
-        if order::short(dir, big, 2 + 12 * i) == tag {
-            return i + 1;
+    for i in 0..d.count {
+        if order::short(dir, d.big, 2 + 12 * i) == tag {
+            return Some(entry_at(dir, d.big, d.at, 2 + 12 * i));
         }
-        i += 1;
     }
-    0
+    None
 }
 
-// Rule 7 as a number: the first tag whose value is bad.
-fn judge_values(dir: &[u8], big: bool, at: usize, c: usize, n: usize) -> usize
-    requires { (dir_len c ≤ length dir.now) × (c ≤ 1024) × (at < 4294967296) }
-    ensures { (told_by result ≡ rule7 n (entries big at c dir.now)) × (result ≤ 65536) }
+// Rule 7, broken at the first tag whose value is bad.
+fn judge_values(dir: &[u8], d: Directory, n: usize) -> Outcome
+    requires { Lent d dir.now }
+    ensures { result ≡ rule7 n (entries d.big d.at d.count dir.now) }
 {
-    let mut i = 0;
-    while i < c {
-        let e = entry_at(dir, big, at, 2 + 12 * i);
+    for i in 0..d.count {
+        let e = entry_at(dir, d.big, d.at, 2 + 12 * i);
         if bad_value(e, n) {
-            return e.tag;
+            return Outcome::Broken(e.tag as u32);
         }
-        i += 1;
     }
-    outcomes::NONE
+    Outcome::Kept
 }
 
 // Rules 6 and 7, the next offset and the further entries of 50909, as `scan` answers them, a pass for each rule.
-pub fn judge_entries(dir: &[u8], big: bool, at: usize, c: usize, n: usize) -> Scanned
-    requires { (dir_len c ≤ length dir.now) × (0 < c) × (c ≤ 1024) × (at + dir_len c ≤ n) × (n ≤ 4294967295) }
-    ensures { result ≡ scanned_of (record { size = n; big = big; at = at }) c dir.now }
+pub fn judge_entries(dir: &[u8], d: Directory, n: usize) -> Scanned
+    requires { (dir_len d.count ≤ length dir.now) × (0 < d.count) × (d.count ≤ 1024) × (d.at + dir_len d.count ≤ n) × (n ≤ 4294967295) }
+    ensures { result ≡ scanned_of (record { size = n; big = d.big; at = d.at }) d.count dir.now }
 {
-    let o = order_again(dir, big, at, c);
-    let seven = judge_values(dir, big, at, c, n);
-    conclude(dir, big, c, o, seven)
+    conclude(dir, d, order_again(dir, d), judge_values(dir, d, n))
 }
 
 // The bytes of a value, a part of the file.

@@ -1,7 +1,7 @@
--- A directory that is laid in a file and keeps rules 6 and 7, with the columns that the pass over it left, is ready for the rules of its table. Assumes
+-- A directory that is laid in a file and keeps rules 6 and 7, with the entries that the pass over it found, is ready for the rules of its table. Assumes
 -- nothing.
 use Prim.Native.Nat.{ℕ}
-use mathlib.Core.Path.{◌≡◌, sym, ap, ◌∙◌, subst}
+use mathlib.Core.Path.{◌≡◌, sym, ap, ◌∙◌}
 use mathlib.Core.Bool.{Bool}
 use mathlib.Core.List.{List, map}
 use lib.ListN.{length}
@@ -11,7 +11,8 @@ use Rattle.paper.specs.Tags.{Line, hold}
 use Rattle.paper.specs.Judge.{Head, head_in, view_at, dir_run, entries_in}
 use Rattle.paper.specs.declared.Outcome.{Outcome}
 use Rattle.paper.specs.declared.Outcome.TheVariants.{Kept as kept}
-use Rattle.layout.specs.Columns.{Columns}
+use Rattle.paper.specs.declared.Entry.{Entry}
+use Rattle.layout.specs.Columns.{firsts}
 use Rattle.layout.specs.Opening.{scanned_of, further_by, LaidAt}
 use Rattle.layout.specs.declared.Scanned.{Scanned}
 use Rattle.layout.proofs.Stages.{lay, head-is, file-size, verdict-is}
@@ -44,16 +45,16 @@ module _ {f : List ℕ} {big : Bool} {at c : ℕ} (o : LaidAt f big at c) where
         }
 
     -- for a table whose tags are those that the pass looked for
-    pub ready : {tb : List Line} {ts typs counts starts lens : List ℕ} → ts ≡ line_tags tb → Columns ts (entries big at c (run f at (dir_len c))) typs counts starts lens
-        → Ready tb f big at c typs counts starts lens
+    pub ready : {tb : List Line} {ts : List ℕ} {found : List Entry} → ts ≡ line_tags tb → found ≡ firsts ts (entries big at c (run f at (dir_len c)))
+        → Ready tb f big at c found
     unfolding entries_at
-    ready {typs = typs} {counts} {starts} {lens} is k =
+    ready is k =
         record {
           size = file-size o;
           low = (lay o).low;
           some = (lay o).some;
           few = (lay o).few;
           whole = (lay o).whole;
-          columns = subst (λ (us : List ℕ). Columns us (entries big at c (run f at (dir_len c))) typs counts starts lens) is k;
+          found_are = k ∙ ap (λ (us : List ℕ). firsts us (entries big at c (run f at (dir_len c)))) is;
           seven = seven-kept Place (entries big at c (run f at (dir_len c))) (verdict-is o so) zero;
         }

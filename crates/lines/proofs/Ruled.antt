@@ -1,4 +1,4 @@
--- Rules 9 and 10 over the rows of a table and the columns of a directory are those of the paper, for any table whose rows say what its lines say.
+-- Rules 9 and 10 over the rows of a table and what was found of their tags are those of the paper, for any table whose rows say what its lines say.
 -- Assumes nothing.
 use Prim.Native.Nat.{ℕ, zero, suc, ◌*◌}
 use mathlib.Core.Path.{◌≡◌, refl, sym, ap, ap₂, ◌∙◌}
@@ -6,7 +6,7 @@ use mathlib.Core.Bool.{Bool, true, false, cond, not, ◌&&◌, ◌||◌, not-not
 use mathlib.Core.List.{List, [], ◌∷◌}
 use native.Mathlib.Nat.{sub-zero}
 use lib.Dec.{eqb}
-use lib.ListN.{get_or, drop}
+use lib.ListN.{drop}
 use borrow.Author.Tests.{eqb-true, not-true}
 use Rattle.paper.specs.Bytes.{build}
 use Rattle.paper.specs.Outcome.{breaks, first_of, first_bad, ordered}
@@ -19,12 +19,13 @@ use Rattle.paper.specs.declared.Outcome.TheVariants.{Kept as kept, Broken as bro
 use Rattle.paper.specs.Tag
 use Rattle.paper.proofs.Laws.{and-eq}
 use Rattle.paper.proofs.Several.{tags_of, first-or-later, rises-behind, once, tags-held, later-held}
-use Rattle.layout.specs.Columns.{field_of, column}
+use Rattle.layout.specs.Columns.{first_with, firsts}
 use Rattle.layout.specs.Repeats.{later_texts, entries_from}
-use Rattle.lines.specs.Rows.{tag_in, needed_in, type_in, other_in, least_in, most_in, needed_by, nine_of, unlike, misfit, ten_of, misfit_in, some_misfit}
+use Rattle.lines.specs.declared.Line.{Line as Row}
+use Rattle.lines.specs.Rows.{first_broken, lacking, needed_by, nine_of, unlike, misfit, ten_of, misfit_in, some_misfit}
 use Rattle.lines.specs.Lined.{line_tags, same, says, all_say, text_last, Lined}
-use Rattle.lines.specs.Ready.{entries_at, held_at, Ready}
-use Rattle.lines.proofs.Slots.{field-find, whole_of, held-is}
+use Rattle.lines.specs.Ready.{entries_at, held_at, at_slot, Ready}
+use Rattle.lines.proofs.Slots.{held-is, present}
 
 -- ---- what a row says
 
@@ -32,23 +33,23 @@ same-is : (a b : Bool) → same a b ≡ true → a ≡ b
 same-is true b h = sym h
 same-is false b h = sym (not-true b h)
 
-record Said (r : List ℕ) (l : Line) : Type 0 where
-  tag : tag_in r ≡ l.tag
-  needed : (tiled : Bool) → needed_by (needed_in r) tiled ≡ l.needed tiled
-  type : type_in r ≡ l.type
-  other : other_in r ≡ l.other
-  least : least_in r ≡ l.least
-  most : most_in r ≡ l.most
+record Said (r : Row) (l : Line) : Type 0 where
+  tag : r.tag ≡ l.tag
+  needed : (tiled : Bool) → needed_by r.needed tiled ≡ l.needed tiled
+  type : r.typ ≡ l.type
+  other : r.other ≡ l.other
+  least : r.least ≡ l.least
+  most : r.most ≡ l.most
 
-said : (r : List ℕ) (l : Line) → says r l ≡ true → Said r l
+said : (r : Row) (l : Line) → says r l ≡ true → Said r l
 unfolding says
 said r l h =
-    let a = and-eq (eqb (tag_in r) l.tag) _ h in
-    let b = and-eq (same (needed_by (needed_in r) true) (l.needed true)) _ a.1 in
-    let c = and-eq (same (needed_by (needed_in r) false) (l.needed false)) _ b.1 in
-    let d = and-eq (eqb (type_in r) l.type) _ c.1 in
-    let e = and-eq (eqb (other_in r) l.other) _ d.1 in
-    let f = and-eq (eqb (least_in r) l.least) _ e.1 in
+    let a = and-eq (eqb r.tag l.tag) _ h in
+    let b = and-eq (same (needed_by r.needed true) (l.needed true)) _ a.1 in
+    let c = and-eq (same (needed_by r.needed false) (l.needed false)) _ b.1 in
+    let d = and-eq (eqb r.typ l.type) _ c.1 in
+    let e = and-eq (eqb r.other l.other) _ d.1 in
+    let f = and-eq (eqb r.least l.least) _ e.1 in
     record {
       tag = eqb-true _ _ a.0;
       needed = asked (same-is _ _ b.0) (same-is _ _ c.0);
@@ -58,23 +59,23 @@ said r l h =
       most = eqb-true _ _ f.1;
     }
   where
-    asked : needed_by (needed_in r) true ≡ l.needed true → needed_by (needed_in r) false ≡ l.needed false → (tiled : Bool) → needed_by (needed_in r) tiled ≡ l.needed tiled
+    asked : needed_by r.needed true ≡ l.needed true → needed_by r.needed false ≡ l.needed false → (tiled : Bool) → needed_by r.needed tiled ≡ l.needed tiled
     asked p q true = p
     asked p q false = q
 
 -- ---- a table in which no line depends on whether the picture is in tiles: rule 9 says the same of both
 
-pub nine-either : (rows : List (List ℕ)) → all (λ r. same (needed_by (needed_in r) true) (needed_by (needed_in r) false)) rows ≡ true
-    → (a b : Bool) (starts : List ℕ) → nine_of rows a starts ≡ nine_of rows b starts
-unfolding all nine_of
-nine-either [] h a b starts = refl
-nine-either (r ∷ rows) h a b starts =
-    let u = and-eq (same (needed_by (needed_in r) true) (needed_by (needed_in r) false)) _ h in
-    ap₂ (λ (is : Bool) (o : Outcome). cond (is && eqb (get_or starts 0 0) 0) (broken (tag_in r)) o)
+pub nine-either : (rows : List Row) → all (λ r. same (needed_by r.needed true) (needed_by r.needed false)) rows ≡ true
+    → (a b : Bool) (found : List Entry) → nine_of rows a found ≡ nine_of rows b found
+unfolding all nine_of first_broken lacking
+nine-either [] h a b found = refl
+nine-either (r ∷ rows) h a b found =
+    let u = and-eq (same (needed_by r.needed true) (needed_by r.needed false)) _ h in
+    ap₂ (λ (is : Bool) (o : Outcome). cond (is && eqb (at_slot found 0).start 0) (broken r.tag) o)
     (either (same-is _ _ u.0) a b)
-    (nine-either rows u.1 a b (drop 1 starts))
+    (nine-either rows u.1 a b (drop 1 found))
   where
-    either : needed_by (needed_in r) true ≡ needed_by (needed_in r) false → (a b : Bool) → needed_by (needed_in r) a ≡ needed_by (needed_in r) b
+    either : needed_by r.needed true ≡ needed_by r.needed false → (a b : Bool) → needed_by r.needed a ≡ needed_by r.needed b
     either e true true = refl
     either e true false = e
     either e false true = sym e
@@ -83,17 +84,17 @@ nine-either (r ∷ rows) h a b starts =
 -- ---- the entries of a tag behind the first, read from the run in which they stand
 
 -- an entry and the numbers that are read of it
-row_fits : {r : List ℕ} {l : Line} → Said r l → (big : Bool) (start : ℕ) (s : List ℕ) (i : ℕ) → misfit_in r big s i ≡ not (fits_the_line l (entry_of big start s (12 * i)))
+row_fits : {r : Row} {l : Line} → Said r l → (big : Bool) (start : ℕ) (s : List ℕ) (i : ℕ) → misfit_in r big s i ≡ not (fits_the_line l (entry_of big start s (12 * i)))
 unfolding misfit_in unlike fits_the_line entry_of
 row_fits is big start s i = rw (is.type, is.other, is.least, is.most)
 
-entries-misfit : {r : List ℕ} {l : Line} → Said r l → (big : Bool) (start : ℕ) (s : List ℕ) (i m : ℕ)
+entries-misfit : {r : Row} {l : Line} → Said r l → (big : Bool) (start : ℕ) (s : List ℕ) (i m : ℕ)
     → some (misfit_in r big s) (build (λ i. i) i m) ≡ some (λ e. not (fits_the_line l e)) (build (λ j. entry_of big start s (12 * j)) i m)
 unfolding build some
 entries-misfit is big start s i zero = refl
 entries-misfit is big start s i (suc m) = ap₂ (λ (a b : Bool). a || b) (row_fits is big start s i) (entries-misfit is big start s (suc i) m)
 
-pub later-misfits : (r : List ℕ) (l : Line) → says r l ≡ true → (big : Bool) (start many : ℕ) (s : List ℕ) {es : List Entry} → entries_from big start s many ≡ es
+pub later-misfits : (r : Row) (l : Line) → says r l ≡ true → (big : Bool) (start many : ℕ) (s : List ℕ) {es : List Entry} → entries_from big start s many ≡ es
     → some_misfit r big s 0 many ≡ some (λ e. not (fits_the_line l e)) es
 unfolding entries_from some_misfit
 later-misfits r l h big start many s is =
@@ -103,38 +104,26 @@ later-misfits r l h big start many s is =
 
 -- ---- a directory
 
-module _ {tb : List Line} {f : List ℕ} {big : Bool} {at c : ℕ} {typs counts starts lens : List ℕ} (r : Ready tb f big at c typs counts starts lens) where
+module _ {tb : List Line} {f : List ℕ} {big : Bool} {at c : ℕ} {found : List Entry} (r : Ready tb f big at c found) where
   abbrev Es : List Entry
   Es = entries_at f big at c
 
   abbrev Hs : List Held
   Hs = held_at tb f big at c
 
-  -- the columns of some tags
-  abbrev Typs : List Line → List ℕ
-  Typs ls = column (λ e. e.typ) (line_tags ls) Es
-
-  abbrev Counts : List Line → List ℕ
-  Counts ls = column (λ e. e.count) (line_tags ls) Es
-
-  abbrev Starts : List Line → List ℕ
-  Starts ls = column (λ e. e.start) (line_tags ls) Es
-
-  pub present : (t : ℕ) → eqb 0 t ≡ false → has t (held_at tb f big at c) ≡ not (eqb (field_of (λ e. e.start) t (entries_at f big at c)) 0)
-  unfolding has
-  present t z =
-      ap (λ (e : Entry). eqb e.tag t) (held-is r t) ∙ (whole_of r t z).has ∙ ap (λ (x : ℕ). not (eqb x 0)) (sym (field-find (λ e. e.start) refl t Es))
+  -- what is found of the tags of some lines
+  abbrev Found : List Line → List Entry
+  Found ls = firsts (line_tags ls) Es
 
   -- ---- rule 9
 
-  lacks-row : {x : List ℕ} {l : Line} → Said x l → eqb 0 l.tag ≡ false
-      → needed_by (needed_in x) (tiled Hs) && eqb (field_of (λ e. e.start) l.tag Es) 0 ≡ lacks Hs l
-  unfolding lacks
-  lacks-row {l = l} is z = rw (is.needed (tiled Hs), present l.tag z, not-not (eqb (field_of (λ e. e.start) l.tag Es) 0))
+  lacks-row : {x : Row} {l : Line} → Said x l → eqb 0 l.tag ≡ false → lacking (tiled Hs) x (first_with l.tag Es) ≡ lacks Hs l
+  unfolding lacking lacks
+  lacks-row {l = l} is z = rw (is.needed (tiled Hs), present r l.tag z, not-not)
 
-  nine-from : (rows : List (List ℕ)) (ls : List Line) → all_say rows ls ≡ true → all named ls ≡ true
-      → nine_of rows (tiled Hs) (Starts ls) ≡ first_bad (lacks Hs) (λ l. l.tag) ls
-  unfolding all_say all named nine_of first_bad column line_tags
+  nine-from : (rows : List Row) (ls : List Line) → all_say rows ls ≡ true → all named ls ≡ true
+      → nine_of rows (tiled Hs) (Found ls) ≡ first_bad (lacks Hs) (λ l. l.tag) ls
+  unfolding all_say all named nine_of first_broken first_bad firsts line_tags
   nine-from [] [] h n = refl
   nine-from [] (l ∷ ls) h n = cc
   nine-from (x ∷ rows) [] h n = cc
@@ -142,12 +131,12 @@ module _ {tb : List Line} {f : List ℕ} {big : Bool} {at c : ℕ} {typs counts 
       let a = and-eq (says x l) _ h in
       let b = and-eq (not (eqb 0 l.tag)) _ n in
       let s = said x l a.0 in
-      ap₂ (λ (bad : Bool) (t : ℕ). cond bad (broken t) (nine_of rows (tiled Hs) (Starts ls))) (lacks-row s (not-true _ b.0)) s.tag
+      ap₂ (λ (bad : Bool) (t : ℕ). cond bad (broken t) (nine_of rows (tiled Hs) (Found ls))) (lacks-row s (not-true _ b.0)) s.tag
       ∙ ap (cond (lacks Hs l) (broken l.tag)) (nine-from rows ls a.1 b.1)
 
-  pub nine-is : {rows : List (List ℕ)} → Lined rows tb → nine_of rows (tiled (held_at tb f big at c)) starts ≡ rule9 tb (held_at tb f big at c)
+  pub nine-is : {rows : List Row} → Lined rows tb → nine_of rows (tiled (held_at tb f big at c)) found ≡ rule9 tb (held_at tb f big at c)
   unfolding rule9
-  nine-is {rows} l = ap (nine_of rows (tiled Hs)) r.columns.starts_are ∙ nine-from rows tb l.say l.tags
+  nine-is {rows} l = ap (nine_of rows (tiled Hs)) r.found_are ∙ nine-from rows tb l.say l.tags
 
   -- ---- rule 10, where rule 6 is kept
 
@@ -162,26 +151,15 @@ module _ {tb : List Line} {f : List ℕ} {big : Bool} {at c : ℕ} {typs counts 
     unfolding held_at rule6
     tags-ordered = ap (ordered behind) (tags-held tb f Es) ∙ six
 
-    -- the numbers of a tag in the columns
-    abbrev Misfit : List ℕ → ℕ → Bool
-    Misfit x t =
-        misfit (field_of (λ e. e.start) t Es) (field_of (λ e. e.typ) t Es) (field_of (λ e. e.count) t Es) (type_in x) (other_in x) (least_in x) (most_in x)
+    -- whether what is found of a tag is not as its row says
+    abbrev Misfit : Row → ℕ → Bool
+    Misfit x t = misfit x (first_with t Es)
 
-    module _ {x : List ℕ} {l : Line} (is : Said x l) (z : eqb 0 l.tag ≡ false) where
+    module _ {x : Row} {l : Line} (is : Said x l) (z : eqb 0 l.tag ≡ false) where
       -- the entry that is found does not fit its line
       found-misfits : has l.tag Hs && not (fits_the_line l (find l.tag Hs).entry) ≡ Misfit x l.tag
       unfolding misfit unlike fits_the_line
-      found-misfits =
-          rw (
-            present l.tag z,
-            held-is r l.tag,
-            field-find (λ e. e.typ) refl l.tag Es,
-            field-find (λ e. e.count) refl l.tag Es,
-            is.type,
-            is.other,
-            is.least,
-            is.most,
-          )
+      found-misfits = rw (present r l.tag z, held-is r l.tag, is.type, is.other, is.least, is.most)
 
       -- a tag that may stand once
       one-misfits : eqb l.tag Tag.metadata ≡ false → misfits Hs l ≡ Misfit x l.tag
@@ -196,9 +174,9 @@ module _ {tb : List Line} {f : List ℕ} {big : Bool} {at c : ℕ} {typs counts 
           ∙ ap₂ (λ (a b : Bool). a || b) found-misfits
           (later-held tb f l.tag (λ e. not (fits_the_line l e)) Es ∙ ap (λ (t : ℕ). some (λ e. not (fits_the_line l e)) (drop 1 (keep (λ e. eqb e.tag t) Es))) (eqb-true _ _ e))
 
-    ten-from : (rows : List (List ℕ)) (ls : List Line) → all_say rows ls ≡ true → all named ls ≡ true → text_last ls ≡ true
-        → first_of (ten_of rows (Typs ls) (Counts ls) (Starts ls) ∷ breaks (late ls) Tag.metadata ∷ []) ≡ first_bad (misfits Hs) (λ l. l.tag) ls
-    unfolding all_say all named text_last ten_of first_bad first_of column line_tags
+    ten-from : (rows : List Row) (ls : List Line) → all_say rows ls ≡ true → all named ls ≡ true → text_last ls ≡ true
+        → first_of (ten_of rows (Found ls) ∷ breaks (late ls) Tag.metadata ∷ []) ≡ first_bad (misfits Hs) (λ l. l.tag) ls
+    unfolding all_say all named text_last ten_of first_broken misfit unlike first_bad first_of firsts line_tags
     ten-from [] [] h n t = refl
     ten-from [] (l ∷ ls) h n t = cc
     ten-from (x ∷ rows) [] h n t = cc
@@ -218,7 +196,7 @@ module _ {tb : List Line} {f : List ℕ} {big : Bool} {at c : ℕ} {typs counts 
         shown false false t = refl
 
         go : (b : Bool) → eqb l.tag Tag.metadata ≡ b → Said x l → eqb 0 l.tag ≡ false
-            → first_of (cond (Misfit x l.tag) (broken (tag_in x)) kept ∷ breaks (b && Later) Tag.metadata ∷ []) ≡ cond (misfits Hs l) (broken l.tag) kept
+            → first_of (cond (Misfit x l.tag) (broken x.tag) kept ∷ breaks (b && Later) Tag.metadata ∷ []) ≡ cond (misfits Hs l) (broken l.tag) kept
         go true e s z =
             rw (s.tag, text-misfits s z e)
             (ap (λ (u : ℕ). first_of (cond (Misfit x l.tag) (broken l.tag) kept ∷ breaks Later u ∷ [])) (sym (eqb-true _ _ e)) ∙ shown (Misfit x l.tag) Later l.tag)
@@ -234,7 +212,7 @@ module _ {tb : List Line} {f : List ℕ} {big : Bool} {at c : ℕ} {typs counts 
         (pushed (Misfit x l.tag) ∙ ap (cond (Misfit x l.tag) (broken l.tag)) (ten-from (y ∷ rows) (m ∷ ls) a.1 b.1 u.1))
       where
         Rest : Outcome
-        Rest = ten_of (y ∷ rows) (Typs (m ∷ ls)) (Counts (m ∷ ls)) (Starts (m ∷ ls))
+        Rest = ten_of (y ∷ rows) (Found (m ∷ ls))
 
         pushed : (b : Bool)
             → first_of (cond b (broken l.tag) Rest ∷ breaks (late (m ∷ ls)) Tag.metadata ∷ []) ≡ cond b (broken l.tag) (first_of (Rest ∷ breaks (late (m ∷ ls)) Tag.metadata ∷ []))
@@ -242,16 +220,15 @@ module _ {tb : List Line} {f : List ℕ} {big : Bool} {at c : ℕ} {typs counts 
         pushed false = refl
 
     -- of each tag the entry that is found, then the others of 50909
-    pub ten-is : {rows : List (List ℕ)} → Lined rows tb → first_of (ten_of rows typs counts starts ∷ breaks (late tb) Tag.metadata ∷ []) ≡ rule10 tb (held_at tb f big at c)
+    pub ten-is : {rows : List Row} → Lined rows tb → first_of (ten_of rows found ∷ breaks (late tb) Tag.metadata ∷ []) ≡ rule10 tb (held_at tb f big at c)
     unfolding rule10
     ten-is {rows} l =
-        (λ i. first_of (ten_of rows (r.columns.typs_are i) (r.columns.counts_are i) (r.columns.starts_are i) ∷ breaks (late tb) Tag.metadata ∷ []))
-        ∙ ten-from rows tb l.say l.tags l.text
+        ap (λ (es : List Entry). first_of (ten_of rows es ∷ breaks (late tb) Tag.metadata ∷ [])) r.found_are ∙ ten-from rows tb l.say l.tags l.text
 
     -- in a table that has no line for 50909 the entry that is found is all
-    pub ten-once : {rows : List (List ℕ)} → Lined rows tb → late tb ≡ false → ten_of rows typs counts starts ≡ rule10 tb (held_at tb f big at c)
+    pub ten-once : {rows : List Row} → Lined rows tb → late tb ≡ false → ten_of rows found ≡ rule10 tb (held_at tb f big at c)
     unfolding first_of
-    ten-once {rows} l none = alone (ten_of rows typs counts starts) ∙ ap (λ (b : Bool). first_of (ten_of rows typs counts starts ∷ breaks b Tag.metadata ∷ [])) (sym none) ∙ ten-is l
+    ten-once {rows} l none = alone (ten_of rows found) ∙ ap (λ (b : Bool). first_of (ten_of rows found ∷ breaks b Tag.metadata ∷ [])) (sym none) ∙ ten-is l
       where
         alone : (o : Outcome) → o ≡ first_of (o ∷ kept ∷ [])
         alone kept = refl

@@ -1,67 +1,50 @@
--- Rules 9 and 10 row by row: what a loop over the rows and a cut through them have to do with a rule is said once for both. Assumes nothing.
+-- The rows of a table, one after the other, and cut in two: what a loop over them and the cut have to do with the first row that its entry breaks. Assumes
+-- nothing.
 use Prim.Native.Nat.{ℕ, zero, suc, ◌+◌, ◌-◌, ◌≤◌, ◌<◌}
 use mathlib.Core.Path.{◌≡◌, refl, sym, ◌∙◌}
-use mathlib.Core.Bool.{Bool, true, false, cond, ◌&&◌}
+use mathlib.Core.Bool.{Bool, true, false, cond}
 use mathlib.Core.List.{List, [], ◌∷◌}
 use native.Mathlib.Nat.{add-zero}
 use native.Mathlib.Numerals.{add-one}
 use native.Mathlib.Omega.{arith}
-use lib.Dec.{eqb}
 use lib.ListN.{length, get_or, take, drop, length-drop, drop_of_length-le}
 use lib.Seq.{take_all, drop-cons, drop-drop, get_or-drop}
+use Rattle.paper.specs.Tags.{absent}
+use Rattle.paper.specs.declared.Entry.{Entry}
 use Rattle.paper.specs.declared.Outcome.{Outcome}
 use Rattle.paper.specs.declared.Outcome.TheVariants.{Kept as kept, Broken as broken}
-use Rattle.lines.specs.Rows.{tag_in, needed_in, type_in, other_in, least_in, most_in, needed_by, nine_of, misfit, ten_of}
-
--- one of the two, with the columns that it goes by
-pub data Rule : Type 0 where
-  nine : Bool → List ℕ → Rule
-  ten : List ℕ → List ℕ → List ℕ → Rule
-
--- what it says of rows that stand from index k on
-unfoldable pub said : Rule → List (List ℕ) → ℕ → Outcome
-said (nine tiled starts) rows k = nine_of rows tiled (drop k starts)
-said (ten typs counts starts) rows k = ten_of rows (drop k typs) (drop k counts) (drop k starts)
-
--- the row of index k is at fault
-unfoldable pub at_fault : Rule → List ℕ → ℕ → Bool
-at_fault (nine tiled starts) r k = needed_by (needed_in r) tiled && eqb (get_or starts k 0) 0
-at_fault (ten typs counts starts) r k = misfit (get_or starts k 0) (get_or typs k 0) (get_or counts k 0) (type_in r) (other_in r) (least_in r) (most_in r)
-
--- so it goes on from row to row
-said-none : (rule : Rule) (k : ℕ) → said rule [] k ≡ kept
-unfolding said nine_of ten_of
-said-none (nine tiled starts) k = refl
-said-none (ten typs counts starts) k = refl
-
-said-next : (rule : Rule) (r : List ℕ) (rs : List (List ℕ)) (k : ℕ) → said rule (r ∷ rs) k ≡ cond (at_fault rule r k) (broken (tag_in r)) (said rule rs (k + 1))
-unfolding said at_fault nine_of ten_of
-said-next (nine tiled starts) r rs k = simp (get_or-drop, add-zero, drop-drop)
-said-next (ten typs counts starts) r rs k = simp (get_or-drop, add-zero, drop-drop)
+use Rattle.lines.specs.declared.Line.{Line as Row}
+use Rattle.lines.specs.Rows.{first_broken}
+use Rattle.lines.specs.Ready.{at_slot}
 
 -- ---- a loop over the rows
 
--- none before row k is at fault
-pub record Passed (rule : Rule) (rows : List (List ℕ)) (k : ℕ) : Type 0 where
-  pub so_far : said rule rows 0 ≡ said rule (drop k rows) k
+-- what is said of the rows from k on
+abbrev From : (Row → Entry → Bool) → List Row → List Entry → ℕ → Outcome
+From breaks rows found k = first_broken breaks (drop k rows) (drop k found)
 
-module _ {rule : Rule} {rows : List (List ℕ)} where
-  pub pass-start : Passed rule rows 0
-  pass-start = record { so_far = refl }
+-- none before row k is broken
+pub record Passed (breaks : Row → Entry → Bool) (rows : List Row) (found : List Entry) (k : ℕ) : Type 0 where
+  pub so_far : first_broken breaks rows found ≡ first_broken breaks (drop k rows) (drop k found)
 
-  module _ {k : ℕ} (passed : Passed rule rows k) where
-    module _ (more : k < length rows) {b : Bool} (is-bad : b ≡ at_fault rule (get_or rows k []) k) where
-      step : said rule rows 0 ≡ cond b (broken (tag_in (get_or rows k []))) (said rule (drop (k + 1) rows) (k + 1))
-      step = passed.so_far ∙ rw (is-bad, drop-cons rows k [], said-next, add-one)
+module _ {breaks : Row → Entry → Bool} {rows : List Row} {found : List Entry} where
+  module _ {k : ℕ} (passed : Passed breaks rows found k) where
+    module _ {r : Row} {e : Entry} (more : k < length rows) (is-row : (d : Row) → r ≡ get_or rows k d) (is-entry : (d : Entry) → e ≡ get_or found k d) where
+      step : first_broken breaks rows found ≡ cond (breaks r e) (broken r.tag) (From breaks rows found (k + 1))
+      unfolding first_broken
+      step =
+          passed.so_far
+          ∙ rw (drop-cons rows k r, ← is-row r, get_or-drop, add-zero, ← is-entry absent.entry, drop-drop, add-one)
 
-      pub pass-bad : b ≡ true → broken (tag_in (get_or rows k [])) ≡ said rule rows 0
-      pass-bad e = sym (step ∙ rw e)
+      pub pass-bad : {b : Bool} → b ≡ breaks r e → b ≡ true → broken r.tag ≡ first_broken breaks rows found
+      pass-bad is h = sym (step ∙ rw (← is, h))
 
-      pub pass-more : b ≡ false → Passed rule rows (k + 1)
-      pass-more e = record { so_far = step ∙ rw e }
+      pub pass-more : {b : Bool} → b ≡ breaks r e → b ≡ false → Passed breaks rows found (k + 1)
+      pass-more is h = record { so_far = step ∙ rw (← is, h) }
 
-    pub pass-end : length rows ≤ k → kept ≡ said rule rows 0
-    pass-end done = sym (passed.so_far ∙ rw (drop_of_length-le rows done, said-none))
+    pub pass-end : length rows ≤ k → kept ≡ first_broken breaks rows found
+    unfolding first_broken
+    pass-end done = sym (passed.so_far ∙ rw (drop_of_length-le rows done))
 
 -- ---- the rows cut in two
 
@@ -78,20 +61,26 @@ either : (b : Bool) (p : ℕ) {o : Outcome} (front back : Outcome) → o ≡ aft
 either true p front back is = refl
 either false p front back is = is
 
--- a rule over all of them goes by the front, and where that keeps it by the back
-cut-rows : (rule : Rule) (n : ℕ) (rows : List (List ℕ)) (k : ℕ) → said rule rows k ≡ after (said rule (take n rows) k) (said rule (drop n rows) (k + n))
-cut-rows rule zero rows k = rw (said-none, add-zero)
-cut-rows rule (suc n) [] k = simp said-none
-cut-rows rule (suc n) (r ∷ rs) k =
-    let e : k + 1 + n ≡ k + suc n = omega arith in
-    rw (said-next rule r rs k, said-next rule r (take n rs) k) (either (at_fault rule r k) (tag_in r) _ _ (rw e at (cut-rows rule n rs (k + 1))))
+-- what is said of all of them is said of the front, and where that is kept of the back
+cut-rows : (breaks : Row → Entry → Bool) (n : ℕ) (rows : List Row) (found : List Entry)
+    → first_broken breaks rows found ≡ after (first_broken breaks (take n rows) found) (first_broken breaks (drop n rows) (drop n found))
+unfolding first_broken
+cut-rows breaks zero rows found = refl
+cut-rows breaks (suc n) [] found = refl
+cut-rows breaks (suc n) (r ∷ rs) found =
+    let e : 1 + n ≡ suc n = omega arith in
+    either (breaks r (at_slot found 0)) r.tag _ _ (rw (drop-drop, e) at (cut-rows breaks n rs (drop 1 found)))
 
-module _ (rule : Rule) (n : ℕ) (rows : List (List ℕ)) {front : Outcome} (is_front : front ≡ said rule (take n rows) 0) where
-  cut-is : said rule rows 0 ≡ after front (said rule (drop n rows) n)
-  cut-is = let e : 0 + n ≡ n = omega arith in rw is_front (rw e at (cut-rows rule n rows 0))
+module _ (breaks : Row → Entry → Bool) (rows : List Row) (found : List Entry) (n : ℕ) {front : Outcome} (is-front : front ≡ first_broken breaks (take n rows) found) where
+  cut-is : first_broken breaks rows found ≡ after front (first_broken breaks (drop n rows) (drop n found))
+  cut-is = rw is-front (cut-rows breaks n rows found)
 
-  pub cut-broken : {p : ℕ} → front ≡ broken p → broken p ≡ said rule rows 0
-  cut-broken e = sym (cut-is ∙ rw e)
+  pub cut-broken : (front ≡ kept → ⊥) → front ≡ first_broken breaks rows found
+  cut-broken e = go front refl ∙ sym cut-is
+    where
+      go : (o : Outcome) → front ≡ o → o ≡ after o (first_broken breaks (drop n rows) (drop n found))
+      go kept p = absurd (e p)
+      go (broken p) q = refl
 
-  pub cut-kept : {o : Outcome} → front ≡ kept → o ≡ said rule (drop n rows) n → o ≡ said rule rows 0
+  pub cut-kept : {o : Outcome} → front ≡ kept → o ≡ first_broken breaks (drop n rows) (drop n found) → o ≡ first_broken breaks rows found
   cut-kept e is-back = is-back ∙ sym (cut-is ∙ rw e)

@@ -4,15 +4,16 @@ use Rattle.std.specs.Prelude.{ℕ, ◌≡◌, Bool, true, false, not, ◌&&◌, 
 use Rattle.paper.specs.Tests.{all}
 use Rattle.paper.specs.Tag
 use Rattle.paper.specs.Tags.{Line, named}
-use Rattle.lines.specs.Rows.{tag_in, needed_in, type_in, other_in, least_in, most_in, needed_by}
+use Rattle.lines.specs.Rows.{needed_by}
+use Rattle.lines.specs.declared.Line.{Line as Row}
 
 -- the tags of a table, in order
 unfoldable pub line_tags : List Line → List ℕ
 line_tags tb = map (λ l. l.tag) tb
 
 -- those of a table's rows
-unfoldable pub row_tags : List (List ℕ) → List ℕ
-row_tags rows = map (λ r. tag_in r) rows
+unfoldable pub row_tags : List Row → List ℕ
+row_tags rows = map (λ r. r.tag) rows
 
 -- two tests give the same
 abbrev pub same : Bool → Bool → Bool
@@ -20,17 +21,17 @@ same true b = b
 same false b = not b
 
 -- a row says what a line says, but for its values
-unfoldable pub says : List ℕ → Line → Bool
+unfoldable pub says : Row → Line → Bool
 says r l =
-    eqb (tag_in r) l.tag
-    && (same (needed_by (needed_in r) true) (l.needed true)
-    && (same (needed_by (needed_in r) false) (l.needed false)
-    && (eqb (type_in r) l.type
-    && (eqb (other_in r) l.other
-    && (eqb (least_in r) l.least
-    && eqb (most_in r) l.most)))))
+    eqb r.tag l.tag
+    && (same (needed_by r.needed true) (l.needed true)
+    && (same (needed_by r.needed false) (l.needed false)
+    && (eqb r.typ l.type
+    && (eqb r.other l.other
+    && (eqb r.least l.least
+    && eqb r.most l.most)))))
 
-unfoldable pub all_say : List (List ℕ) → List Line → Bool
+unfoldable pub all_say : List Row → List Line → Bool
 all_say [] [] = true
 all_say [] (l ∷ ls) = false
 all_say (r ∷ rs) [] = false
@@ -42,7 +43,7 @@ text_last [] = true
 text_last (l ∷ []) = true
 text_last (l ∷ m ∷ ls) = not (eqb l.tag Tag.metadata) && text_last (m ∷ ls)
 
-pub record Lined (rows : List (List ℕ)) (tb : List Line) : Type 0 where
+pub record Lined (rows : List Row) (tb : List Line) : Type 0 where
   pub say : all_say rows tb ≡ true
   pub tags : all named tb ≡ true
   pub text : text_last tb ≡ true

@@ -1,62 +1,57 @@
--- Rules 9 and 10 over the rows of a table and the columns of a directory: row by row, with the first number of each column. Assumes nothing.
-use Rattle.std.specs.Prelude.{ℕ, ◌+◌, ◌-◌, ◌*◌, Bool, cond, not, ◌&&◌, ◌||◌, List, [], ◌∷◌, eqb, leb, get_or, drop}
+-- Rules 9 and 10 over the rows of a table, which are the code's lines, and what was found of their tags in a directory: row by row, with the first entry that is
+-- left. Assumes nothing.
+use Rattle.std.specs.Prelude.{ℕ, ◌≡◌, ◌+◌, ◌-◌, ◌*◌, Bool, true, false, cond, not, ◌&&◌, ◌||◌, List, [], ◌∷◌, eqb, leb, get_or, drop}
 use Rattle.paper.specs.Bytes.{num, build}
 use Rattle.paper.specs.Tests.{some}
+use Rattle.paper.specs.Tags.{absent}
+use Rattle.paper.specs.declared.Entry.{Entry}
 use Rattle.paper.specs.declared.Outcome.{Outcome}
 use Rattle.paper.specs.declared.Outcome.TheVariants.{Kept as kept, Broken as broken}
+use Rattle.lines.specs.declared.Needed.{Needed}
+use Rattle.lines.specs.declared.Needed.TheVariants.{Never, Strips, Tiles, Always}
+use Rattle.lines.specs.declared.Line.{Line as Row}
 
--- the numbers of a row: the tag, when it is needed, the one or two types that it may have, the least and the most of its count
-abbrev pub tag_in : List ℕ → ℕ
-tag_in r = get_or r 0 0
+-- the tag of the first row that its entry breaks
+unfoldable pub first_broken : (Row → Entry → Bool) → List Row → List Entry → Outcome
+first_broken breaks [] found = kept
+first_broken breaks (r ∷ rs) found = cond (breaks r (get_or found 0 absent.entry)) (broken r.tag) (first_broken breaks rs (drop 1 found))
 
-abbrev pub needed_in : List ℕ → ℕ
-needed_in r = get_or r 1 0
-
-abbrev pub type_in : List ℕ → ℕ
-type_in r = get_or r 2 0
-
-abbrev pub other_in : List ℕ → ℕ
-other_in r = get_or r 3 0
-
-abbrev pub least_in : List ℕ → ℕ
-least_in r = get_or r 4 0
-
-abbrev pub most_in : List ℕ → ℕ
-most_in r = get_or r 5 0
+-- a function of a row and an entry answers a test of them
+abbrev pub Answers : (Row → Entry → Bool → Type 0) → (Row → Entry → Bool) → Type 0
+Answers gives test = (r : Row) (e : Entry) (b : Bool) → gives r e b → b ≡ test r e
 
 -- ---- rule 9
 
--- needed: 3 always, 1 in a picture of strips, 2 in one of tiles
-unfoldable pub needed_by : ℕ → Bool → Bool
-needed_by n tiled = eqb n 3 || eqb n (cond tiled 2 1)
+unfoldable pub needed_by : Needed → Bool → Bool
+needed_by Never tiled = false
+needed_by Strips tiled = not tiled
+needed_by Tiles tiled = tiled
+needed_by Always tiled = true
 
 -- a needed tag has no value: it starts at 0
-unfoldable pub nine_of : List (List ℕ) → Bool → List ℕ → Outcome
-nine_of [] tiled starts = kept
-nine_of (r ∷ rs) tiled starts =
-    cond (needed_by (needed_in r) tiled && eqb (get_or starts 0 0) 0) (broken (tag_in r)) (nine_of rs tiled (drop 1 starts))
+unfoldable pub lacking : Bool → Row → Entry → Bool
+lacking tiled r e = needed_by r.needed tiled && eqb e.start 0
+
+unfoldable pub nine_of : List Row → Bool → List Entry → Outcome
+nine_of rows tiled found = first_broken (lacking tiled) rows found
 
 -- ---- rule 10
 
 -- a tag has another type or count than its line says
-unfoldable pub unlike : ℕ → ℕ → ℕ → ℕ → ℕ → ℕ → Bool
-unlike typ count a b least most = not ((eqb typ a || eqb typ b) && (leb least count && leb count most))
+unfoldable pub unlike : Row → ℕ → ℕ → Bool
+unlike r typ count = not ((eqb typ r.typ || eqb typ r.other) && (leb r.least count && leb count r.most))
 
 -- and is present
-unfoldable pub misfit : ℕ → ℕ → ℕ → ℕ → ℕ → ℕ → ℕ → Bool
-misfit start typ count a b least most = not (eqb start 0) && unlike typ count a b least most
+unfoldable pub misfit : Row → Entry → Bool
+misfit r e = not (eqb e.start 0) && unlike r e.typ e.count
 
-unfoldable pub ten_of : List (List ℕ) → List ℕ → List ℕ → List ℕ → Outcome
-ten_of [] typs counts starts = kept
-ten_of (r ∷ rs) typs counts starts =
-    cond (misfit (get_or starts 0 0) (get_or typs 0 0) (get_or counts 0 0) (type_in r) (other_in r) (least_in r) (most_in r))
-    (broken (tag_in r))
-    (ten_of rs (drop 1 typs) (drop 1 counts) (drop 1 starts))
+unfoldable pub ten_of : List Row → List Entry → Outcome
+ten_of rows found = first_broken misfit rows found
 
 -- entry j of a run of entries is not as the row says
-unfoldable pub misfit_in : List ℕ → Bool → List ℕ → ℕ → Bool
-misfit_in r big s j = unlike (num big 2 s (12 * j + 2)) (num big 4 s (12 * j + 4)) (type_in r) (other_in r) (least_in r) (most_in r)
+unfoldable pub misfit_in : Row → Bool → List ℕ → ℕ → Bool
+misfit_in r big s j = unlike r (num big 2 s (12 * j + 2)) (num big 4 s (12 * j + 4))
 
 -- one of them from entry j on, of so many, is not
-unfoldable pub some_misfit : List ℕ → Bool → List ℕ → ℕ → ℕ → Bool
+unfoldable pub some_misfit : Row → Bool → List ℕ → ℕ → ℕ → Bool
 some_misfit r big s j many = some (misfit_in r big s) (build (λ i. i) j (many - j))

@@ -11,15 +11,18 @@ use Rattle.paper.specs.Tests.{all, between, just, allows}
 use Rattle.paper.specs.Layout.{rule6}
 use Rattle.paper.specs.Tag
 use Rattle.paper.specs.Tags.{Line, line, yes, LONG, more, sixteens, mask_values, mask_table, named, Held, find, value_of, values_of, tiled, disallowed, rule27, rule9, rule10, rule11, rule12}
-use Rattle.paper.specs.Judge.{View, table_rules}
+use Rattle.paper.specs.Judge.{table_rules}
+use Rattle.paper.specs.declared.Entry.{Entry}
 use Rattle.paper.specs.declared.Outcome.{Outcome}
 use Rattle.paper.specs.declared.Outcome.TheVariants.{Kept as kept, Broken as broken}
 use Rattle.paper.specs.declared.Verdict.{Verdict}
 use Rattle.paper.proofs.Laws.{and-eq, or_same}
 use Rattle.paper.proofs.Bounds.{no_line}
-use Rattle.lines.specs.Rows.{nine_of, ten_of}
-use Rattle.lines.specs.Lined.{all_say, text_last, Lined as LinedTable}
-use Rattle.lines.specs.Ready.{entries_at, held_at, Ready}
+use Rattle.lines.specs.Rows.{needed_by, nine_of, ten_of}
+use Rattle.lines.specs.Lined.{says, all_say, text_last, Lined as LinedTable}
+use Rattle.mask.specs.declared.table.TheConstants.{LINES}
+use Rattle.lines.specs.Ready.{entries_at, held_at, at_slot, Ready}
+use Rattle.lines.specs.declared.Line.{Line as Row}
 use Rattle.lines.proofs.Slots.{Slot, slot}
 use Rattle.lines.proofs.Ruled.{nine-is, ten-once}
 use Rattle.tags.specs.Index
@@ -32,9 +35,9 @@ use Rattle.tags.proofs.Rules.{Lined, needed-lined, one-bad, eleven-by, twelve-is
 use Rattle.tags.proofs.Fetched.{single-is, number_is, readable, numbers-are, bits-same, bits-some, bits-end, bits-room, count_at, offsets-same, byte-counts-same}
 use Rattle.tags.proofs.Kept.{Allowed, eleven-gives}
 use Rattle.mask.specs.Values.{subfile, number_at, Sized, sized_in, Single258, all_one, single_in, Plain, plain_in, CutReadable, cut_in, CutBytes, cut_allowed, Countable, pieces_by, agrees}
-use Rattle.mask.specs.Masking.{tagged_by, tagged_of}
+use Rattle.std.specs.Prelude.{Ok, Err}
+use Rattle.mask.specs.Masking.{numbered, tagged_of}
 use Rattle.mask.specs.declared.Cut.{Cut}
-use Rattle.mask.specs.declared.Tagged.{Tagged}
 use Rattle.mask.proofs.Tested.{is_kept, kept-is, just-one, Tests, kept-eleven, in_order, one_bit, kept-twelve}
 
 -- ---- the table
@@ -43,10 +46,14 @@ pub mask-named : (w l : ℕ) → all named (mask_table w l) ≡ true
 unfolding all named mask_table
 mask-named w l = refl
 
--- rows that say what its lines say are all that rules 9 and 10 ask
-pub lined : (w l : ℕ) (rows : List (List ℕ)) → all_say rows (mask_table w l) ≡ true → LinedTable rows (mask_table w l)
+-- the rows of the code say what its lines say, which is all that rules 9 and 10 ask
+said : (w l : ℕ) → all_say LINES (mask_table w l) ≡ true
+unfolding all_say says needed_by mask_table
+said w l = refl
+
+pub lined : (w l : ℕ) → LinedTable LINES (mask_table w l)
 unfolding mask_table text_last
-lined w l rows h = record { say = h; tags = mask-named w l; text = refl }
+lined w l = record { say = said w l; tags = mask-named w l; text = refl }
 
 -- the line of 254
 abbrev Kind : List Line
@@ -54,16 +61,13 @@ Kind = line Tag.subfile yes LONG LONG 1 1 (allows (just 4 ∷ [])) ∷ []
 
 -- ---- a rule that is broken
 
-abbrev pub refused_as : ℕ → Tagged
-refused_as k = record { number = k; tiled = false }
+told : (k : ℕ) → eqb k 0 ≡ false → (o : Outcome) (w : Verdict) (t : Bool) → is_kept o ≡ false → Err k ≡ numbered (or_else k o w) t
+unfolding numbered
+told k z kept w t h = cc
+told k z (broken p) w t h = rw z
 
-told : (k : ℕ) → eqb k 0 ≡ false → (o : Outcome) (w : Verdict) (v : View) → is_kept o ≡ false → refused_as k ≡ tagged_by (or_else k o w) v
-unfolding tagged_by
-told k z kept w v h = cc
-told k z (broken p) w v h = rw z
-
-module _ (wide long : ℕ) {f : List ℕ} {big : Bool} {at c : ℕ} {typs counts starts lens : List ℕ} (r : Ready (mask_table wide long) f big at c typs counts starts lens)
-    {s t m : Bool} (is-s : s ≡ some_at strip_slots starts) (is-t : t ≡ some_at tile_slots starts) (is_m : m ≡ (s && t) || (not s && not t)) where
+module _ (wide long : ℕ) {f : List ℕ} {big : Bool} {at c : ℕ} {found : List Entry} (r : Ready (mask_table wide long) f big at c found)
+    {s t m : Bool} (is-s : s ≡ some_at strip_slots found) (is-t : t ≡ some_at tile_slots found) (is_m : m ≡ (s && t) || (not s && not t)) where
   t_same : t ≡ tiled (held_at (mask_table wide long) f big at c)
   unfolding mask_table
   t_same = is-t ∙ tiles-are (mask_values wide long) (mask-named wide long) r
@@ -72,31 +76,31 @@ module _ (wide long : ℕ) {f : List ℕ} {big : Bool} {at c : ℕ} {typs counts
   unfolding mask_table
   mixed-same = mixed-is (mask_values wide long) (mask-named wide long) r is-s is-t is_m
 
-  pub refused-mixed : {x : Tagged} → m ≡ true → x ≡ refused_as 27 → x ≡ tagged_of (view_of (mask_table wide long) f big at c)
-  unfolding tagged_of tagged_by view_of table_rules first
-  refused-mixed h e = rw (e, mixed-same, h)
+  pub refused-mixed : m ≡ true → Err 27 ≡ tagged_of (view_of (mask_table wide long) f big at c)
+  unfolding tagged_of numbered view_of table_rules first
+  refused-mixed h = rw (mixed-same, h)
 
-  module _ (alike : m ≡ false) {rows : List (List ℕ)} (l : LinedTable rows (mask_table wide long)) {o : Outcome} (is-o : o ≡ nine_of rows t starts) where
+  module _ (alike : m ≡ false) {rows : List Row} (l : LinedTable rows (mask_table wide long)) {o : Outcome} (is-o : o ≡ nine_of rows t found) where
     mixed-kept : rule27 (held_at (mask_table wide long) f big at c) ≡ kept
     mixed-kept = mixed-same ∙ ap (λ (b : Bool). breaks b 0) alike
 
     nine-same : o ≡ rule9 (mask_table wide long) (held_at (mask_table wide long) f big at c)
-    nine-same = is-o ∙ ap (λ (b : Bool). nine_of rows b starts) t_same ∙ nine-is r l
+    nine-same = is-o ∙ ap (λ (b : Bool). nine_of rows b found) t_same ∙ nine-is r l
 
-    pub refused-nine : {x : Tagged} {p : ℕ} → o ≡ broken p → x ≡ refused_as 9 → x ≡ tagged_of (view_of (mask_table wide long) f big at c)
-    unfolding tagged_of tagged_by view_of table_rules first
-    refused-nine h e = rw (e, mixed-kept, ← nine-same, h)
+    pub refused-nine : {p : ℕ} → o ≡ broken p → Err 9 ≡ tagged_of (view_of (mask_table wide long) f big at c)
+    unfolding tagged_of numbered view_of table_rules first
+    refused-nine h = rw (mixed-kept, ← nine-same, h)
 
-    module _ (h : o ≡ kept) {u : Outcome} (is-u : u ≡ ten_of rows typs counts starts) (six : rule6 (entries_at f big at c) ≡ kept) where
+    module _ (h : o ≡ kept) {u : Outcome} (is-u : u ≡ ten_of rows found) (six : rule6 (entries_at f big at c) ≡ kept) where
       ten-same : u ≡ rule10 (mask_table wide long) (held_at (mask_table wide long) f big at c)
       unfolding mask_table
       ten-same = is-u ∙ ten-once r six l refl
 
-      pub refused-ten : {x : Tagged} {p : ℕ} → u ≡ broken p → x ≡ refused_as 10 → x ≡ tagged_of (view_of (mask_table wide long) f big at c)
-      unfolding tagged_of tagged_by view_of table_rules first
-      refused-ten k e = rw (e, mixed-kept, ← nine-same, h, ← ten-same, k)
+      pub refused-ten : {p : ℕ} → u ≡ broken p → Err 10 ≡ tagged_of (view_of (mask_table wide long) f big at c)
+      unfolding tagged_of numbered view_of table_rules first
+      refused-ten k = rw (mixed-kept, ← nine-same, h, ← ten-same, k)
 
-      pub fitting : u ≡ kept → Fitting (mask_table wide long) f big at c t typs counts starts lens
+      pub fitting : u ≡ kept → Fitting (mask_table wide long) f big at c t found
       fitting k = record { ready = r; tiled_is = t_same; twenty_seven = mixed-kept; nine = sym nine-same ∙ h; ten = sym ten-same ∙ k }
 
 -- ---- the values
@@ -108,23 +112,15 @@ cut_from n = record { rows = n.rows; tilewidth = n.tilewidth; tilelength = n.til
 pub exactly : (x y : ℕ) → allows (just y ∷ []) x ≡ true → x ≡ y
 exactly x y i = eqb-true x y (sym (just-one x y) ∙ i)
 
-untrue : (y : Bool) → not y ≡ true → y ≡ false
-untrue true i = sym i
-untrue false i = refl
-
-is_true : (y : Bool) → not y ≡ false → y ≡ true
-is_true true i = refl
-is_true false i = sym i
-
-module _ (wide long : ℕ) {f : List ℕ} {big : Bool} {at c : ℕ} {t : Bool} {typs counts starts lens : List ℕ} (w : Fitting (mask_table wide long) f big at c t typs counts starts lens) where
+module _ (wide long : ℕ) {f : List ℕ} {big : Bool} {at c : ℕ} {t : Bool} {found : List Entry} (w : Fitting (mask_table wide long) f big at c t found) where
   abbrev Hs : List Held
   Hs = held_at (mask_table wide long) f big at c
 
-  pub sized : Sized f typs starts
+  pub sized : Sized f found
   unfolding mask_table
   sized = let r = readable (mask_values wide long) (mask-named wide long) w in record { width = r.width; length = r.length }
 
-  pub single : Single258 f counts starts lens
+  pub single : Single258 f found
   unfolding mask_table
   single =
       let v = mask_values wide long in
@@ -132,7 +128,7 @@ module _ (wide long : ℕ) {f : List ℕ} {big : Bool} {at c : ℕ} {t : Bool} {
       record { size = w.ready.size; some = bits-some v n w; end = bits-end v n w; room = bits-room v n w }
 
   -- 254
-  kind-slot : Slot f Hs typs counts starts lens Tag.subfile subfile
+  kind-slot : Slot f Hs found Tag.subfile subfile
   unfolding mask_table
   kind-slot = slot w.ready (mask-named wide long) subfile (lit< tt)
 
@@ -145,30 +141,30 @@ module _ (wide long : ℕ) {f : List ℕ} {big : Bool} {at c : ℕ} {t : Bool} {
       let g = kind-lined in
       record { present = g.present; kind = rw (or_same (eqb (find Tag.subfile Hs).entry.typ 4) g.kind, or-true); low = g.low; high = g.high }
 
-  kind-is : number_at big f typs starts subfile ≡ value_of big Tag.subfile Hs
+  kind-is : number_at big f found subfile ≡ value_of big Tag.subfile Hs
   kind-is = number_is kind-slot big kind-lined
 
-  pub plain : Plain f typs starts
+  pub plain : Plain f found
   unfolding mask_table
   plain =
       let r = readable (mask_values wide long) (mask-named wide long) w in
       record { compression = r.compression; photometric = r.photometric; samples = r.samples; planar = r.planar; kind = single-is kind-slot either-lined }
 
-  pub cut-readable : CutReadable f t typs starts
+  pub cut-readable : CutReadable f t found
   unfolding mask_table
   cut-readable =
       let r = readable (mask_values wide long) (mask-named wide long) w in
       record { rows = r.rows; tilewidth = r.tilewidth; tilelength = r.tilelength }
 
-  numbers-same : numbers_in big f t typs starts ≡ numbers_of big Hs
+  numbers-same : numbers_in big f t found ≡ numbers_of big Hs
   unfolding mask_table
   numbers-same = numbers-are (mask_values wide long) (mask-named wide long) w
 
-  bits-read : single_in big f counts starts lens ≡ all_one (bits_of big Hs)
+  bits-read : single_in big f found ≡ all_one (bits_of big Hs)
   unfolding mask_table single_in
   bits-read = ap all_one (bits-same (mask_values wide long) (mask-named wide long) w refl refl)
 
-  some_bits : 0 < get_or counts Index.bits 0
+  some_bits : 0 < (at_slot found Index.bits).count
   unfolding mask_table
   some_bits = bits-some (mask_values wide long) (mask-named wide long) w
 
@@ -195,31 +191,30 @@ module _ (wide long : ℕ) {f : List ℕ} {big : Bool} {at c : ℕ} {t : Bool} {
       (all (allows (just 1 ∷ [])) (values_of big Tag.bits (held_at (mask_table wide long) f big at c)))
   allowed-where h = eleven-gives (mask_values wide long) (numbers_of big Hs) (all (allows (just 1 ∷ [])) (values_of big Tag.bits Hs)) Rest (eleven-is ∙ h)
 
-  module _ {a b d e : Bool} (is-a : a ≡ sized_in big f wide long typs starts) (is_b : b ≡ single_in big f counts starts lens) (is-d : d ≡ plain_in big f typs starts)
-      {k : Cut} (is-k : k ≡ cut_in big f t typs starts) (is-e : e ≡ cut_allowed k) where
+  module _ {a b d e : Bool} (is-a : a ≡ sized_in big f wide long found) (is_b : b ≡ single_in big f found) (is-d : d ≡ plain_in big f found)
+      {k : Cut} (is-k : k ≡ cut_in big f t found) (is-e : e ≡ cut_allowed k) where
     eleven-same : (a && b) && (d && e) ≡ is_kept (rule11 (mask_table wide long) big Hs)
     unfolding sized_in plain_in cut_in cut_allowed numbers_in
     eleven-same =
-        let n = numbers_in big f t typs starts in
+        let n = numbers_in big f t found in
         (λ z. (is-a z && (is_b ∙ bits-read ∙ bits-allowed) z) && (is-d z && (is-e ∙ ap cut_allowed is-k) z))
         ∙ in_order (eqb n.width wide) (eqb n.length long) (all (allows (just 1 ∷ [])) (values_of big Tag.bits Hs)) (allows codings n.compression) (eqb n.photometric 4)
-        (eqb n.samples 1) (allows (between 1 more ∷ []) n.rows) (eqb n.planar 1) (sixteens n.tilewidth) (sixteens n.tilelength) (eqb (number_at big f typs starts subfile) 4)
+        (eqb n.samples 1) (allows (between 1 more ∷ []) n.rows) (eqb n.planar 1) (sixteens n.tilewidth) (sixteens n.tilelength) (eqb (number_at big f found subfile) 4)
         ∙ (λ z. Tests wide long (numbers-same z) (all (allows (just 1 ∷ [])) (values_of big Tag.bits Hs)) (kind-is z))
         ∙ sym (kept-eleven wide long (numbers_of big Hs) _ _)
         ∙ ap is_kept eleven-is
 
-    pub refused-eleven : {x : Tagged} → not ((a && b) && (d && e)) ≡ true → x ≡ refused_as 11 → x ≡ tagged_of (view_of (mask_table wide long) f big at c)
+    pub refused-eleven : (a && b) && (d && e) ≡ false → Err 11 ≡ tagged_of (view_of (mask_table wide long) f big at c)
     unfolding tagged_of view_of table_rules first
-    refused-eleven h q =
-        let next = or_else 12 (rule12 big Hs) (verdict 0 0) in
-        rw (q, w.twenty_seven, w.nine, w.ten)
-        (told 11 refl (rule11 (mask_table wide long) big Hs) next (view_of (mask_table wide long) f big at c) (sym eleven-same ∙ untrue ((a && b) && (d && e)) h))
+    refused-eleven h =
+        rw (w.twenty_seven, w.nine, w.ten)
+        (told 11 refl (rule11 (mask_table wide long) big Hs) (or_else 12 (rule12 big Hs) (verdict 0 0)) (tiled Hs) (sym eleven-same ∙ h))
 
     -- ---- rule 12
 
-    module _ (h : not ((a && b) && (d && e)) ≡ false) where
+    module _ (h : (a && b) && (d && e) ≡ true) where
       eleven-kept : rule11 (mask_table wide long) big Hs ≡ kept
-      eleven-kept = kept-is _ (sym eleven-same ∙ is_true _ h)
+      eleven-kept = kept-is _ (sym eleven-same ∙ h)
 
       allowed : Allowed (mask_values wide long) (numbers_of big Hs) (all (allows (just 1 ∷ [])) (values_of big Tag.bits Hs))
       allowed = allowed-where eleven-kept
@@ -239,8 +234,8 @@ module _ (wide long : ℕ) {f : List ℕ} {big : Bool} {at c : ℕ} {t : Bool} {
             tilelength = subst (λ (z : Cut). 0 < z.tilelength) (sym cut-same) allowed.tilelength_low;
           }
 
-      module _ {p : ℕ} (is-p : p ≡ pieces_by k t wide long) {i x y j l : ℕ} (is-i : i ≡ get_or counts Index.bits 0) (is_x : x ≡ slot_of_offsets t) (is-j : j ≡ get_or counts x 0)
-          (is_y : y ≡ slot_of_byte_counts t) (is-l : l ≡ get_or counts y 0) {u : Bool} (is-u : u ≡ agrees i j l p) where
+      module _ {p : ℕ} (is-p : p ≡ pieces_by k t wide long) {x y : ℕ} (is_x : x ≡ slot_of_offsets t) (is_y : y ≡ slot_of_byte_counts t) {u : Bool}
+          (is-u : u ≡ agrees (at_slot found Index.bits).count (at_slot found x).count (at_slot found y).count p) where
         pieces-same : p ≡ count_of_pieces (numbers_of big Hs) (tiled Hs)
         unfolding pieces_by count_of_pieces
         pieces-same =
@@ -253,19 +248,19 @@ module _ (wide long : ℕ) {f : List ℕ} {big : Bool} {at c : ℕ} {t : Bool} {
         twelve-same =
             let v = mask_values wide long in
             let n = mask-named wide long in
-            let bits = is-i ∙ count_at v n w Index.bits (lit< tt) in
-            let offsets = is-j ∙ offsets-same v n w is_x in
-            let bytecounts = is-l ∙ byte-counts-same v n w is_y in
+            let bits = count_at v n w Index.bits (lit< tt) in
+            let offsets = ap (λ (j : ℕ). (at_slot found j).count) is_x ∙ offsets-same v n w in
+            let bytecounts = ap (λ (j : ℕ). (at_slot found j).count) is_y ∙ byte-counts-same v n w in
             let b = and-eq (bits_of big Hs).same _ (bits-allowed ∙ allowed.bits) in
             is-u
             ∙ (λ z. agrees (bits z) (offsets z) (bytecounts z) (pieces-same z))
             ∙ sym (kept-twelve (numbers_of big Hs) (bits_of big Hs) (tiled Hs) _ _ _ (exactly _ 1 allowed.samples) b.0 (eqb-true _ 1 b.1))
             ∙ ap is_kept (twelve-is big Hs)
 
-        pub refused-twelve : {z : Tagged} → not u ≡ true → z ≡ refused_as 12 → z ≡ tagged_of (view_of (mask_table wide long) f big at c)
+        pub refused-twelve : u ≡ false → Err 12 ≡ tagged_of (view_of (mask_table wide long) f big at c)
         unfolding tagged_of view_of table_rules first
-        refused-twelve g q = rw (q, w.twenty_seven, w.nine, w.ten, eleven-kept) (told 12 refl (rule12 big Hs) (verdict 0 0) (view_of (mask_table wide long) f big at c) (sym twelve-same ∙ untrue u g))
+        refused-twelve g = rw (w.twenty_seven, w.nine, w.ten, eleven-kept) (told 12 refl (rule12 big Hs) (verdict 0 0) (tiled Hs) (sym twelve-same ∙ g))
 
-        pub accepted : not u ≡ false → record { number = 0; tiled = t } ≡ tagged_of (view_of (mask_table wide long) f big at c)
-        unfolding tagged_of tagged_by view_of table_rules first
-        accepted g = rw (w.twenty_seven, w.nine, w.ten, eleven-kept, kept-is (rule12 big Hs) (sym twelve-same ∙ is_true u g), w.tiled_is)
+        pub accepted : u ≡ true → Ok t ≡ tagged_of (view_of (mask_table wide long) f big at c)
+        unfolding tagged_of numbered view_of table_rules first
+        accepted g = rw (w.twenty_seven, w.nine, w.ten, eleven-kept, kept-is (rule12 big Hs) (sym twelve-same ∙ g), w.tiled_is)

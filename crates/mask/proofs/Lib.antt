@@ -1,4 +1,5 @@
--- The laws of this crate, file by file: what callers lean on is in Masked. Assumes nothing.
+-- The laws of this crate, file by file: what callers lean on is in Masked and in Numbered. Assumes nothing.
+pub mod Numbered
 pub mod Tested
 pub mod Answers
 pub mod Masked

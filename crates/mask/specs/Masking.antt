@@ -1,16 +1,14 @@
--- What rules 27 and 9 to 12 answer for a mask's directory that keeps rules 4 to 8: the number of the first broken rule, or whether the mask is in tiles.
+-- What rules 27 and 9 to 12 answer for a mask's directory that keeps rules 4 to 8: whether the mask is in tiles, or the number of the first broken rule.
 -- Assumes nothing.
-use Rattle.std.specs.Prelude.{◌&&◌}
+use Rattle.std.specs.Prelude.{ℕ, Bool, cond, eqb, Result, Ok, Err}
 use Rattle.paper.specs.Outcome.{first}
 use Rattle.paper.specs.Tags.{tiled}
 use Rattle.paper.specs.Judge.{View, table_rules}
-use Rattle.paper.specs.Calls.{accepts}
 use Rattle.paper.specs.declared.Verdict.{Verdict}
-use Rattle.mask.specs.declared.Tagged.{Tagged}
 
--- what is told of the picture goes with number 0 only
-unfoldable pub tagged_by : Verdict → View → Tagged
-tagged_by w v = record { number = w.number; tiled = accepts w && tiled v.held }
+-- what code answers of a mask's rules: what it found where none of them is broken, and else the number of the first
+unfoldable pub numbered : {A : Type 0} → Verdict → A → Result A ℕ
+numbered w a = cond (eqb w.number 0) (Ok a) (Err w.number)
 
-unfoldable pub tagged_of : View → Tagged
-tagged_of v = tagged_by (first (table_rules v)) v
+unfoldable pub tagged_of : View → Result Bool ℕ
+tagged_of v = numbered (first (table_rules v)) (tiled v.held)

@@ -1,23 +1,23 @@
 // The mask's table of tags, a line a tag as in the image's table: the lines of a picture's tags in the slots that they have there, and that of 254 behind
-// them. Which values are allowed is in `is_sized`, `is_single`, `is_plain` and `is_cut`.
-use lines::{LONG, MORE, NO, SHORT, STRIPS, TILES, WIDE, YES};
+// them, all of them written out, so that the table stands whole. Which values are allowed is in `is_sized`, `is_single`, `is_plain` and `is_cut`.
+use lines::{LONG, Line, MORE, SHORT, table};
 
-pub const LINES: [[u32; WIDE]; SLOTS] = [
-    [256, YES, SHORT, LONG, 1, 1],
-    [257, YES, SHORT, LONG, 1, 1],
-    [258, YES, SHORT, SHORT, 1, MORE],
-    [259, YES, SHORT, SHORT, 1, 1],
-    [262, YES, SHORT, SHORT, 1, 1],
-    [273, STRIPS, SHORT, LONG, 1, MORE],
-    [277, YES, SHORT, SHORT, 1, 1],
-    [278, STRIPS, SHORT, LONG, 1, 1],
-    [279, STRIPS, SHORT, LONG, 1, MORE],
-    [284, NO, SHORT, SHORT, 1, 1],
-    [322, TILES, SHORT, LONG, 1, 1],
-    [323, TILES, SHORT, LONG, 1, 1],
-    [324, TILES, LONG, LONG, 1, MORE],
-    [325, TILES, SHORT, LONG, 1, MORE],
-    [254, YES, LONG, LONG, 1, 1],
+pub const LINES: [Line; SLOTS] = table![
+    [256, Always, SHORT, LONG, 1, 1],
+    [257, Always, SHORT, LONG, 1, 1],
+    [258, Always, SHORT, SHORT, 1, MORE],
+    [259, Always, SHORT, SHORT, 1, 1],
+    [262, Always, SHORT, SHORT, 1, 1],
+    [273, Strips, SHORT, LONG, 1, MORE],
+    [277, Always, SHORT, SHORT, 1, 1],
+    [278, Strips, SHORT, LONG, 1, 1],
+    [279, Strips, SHORT, LONG, 1, MORE],
+    [284, Never, SHORT, SHORT, 1, 1],
+    [322, Tiles, SHORT, LONG, 1, 1],
+    [323, Tiles, SHORT, LONG, 1, 1],
+    [324, Tiles, LONG, LONG, 1, MORE],
+    [325, Tiles, SHORT, LONG, 1, MORE],
+    [254, Always, LONG, LONG, 1, 1],
 ];
 
 // The slot of 254.

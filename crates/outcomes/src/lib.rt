@@ -2,9 +2,10 @@
 // broken, or NONE.
 #![tactic(auto)]
 
-ghost use Rattle.std.specs.Prelude.{◌≡◌, cond, ◌≤◌};
-ghost use Rattle.paper.specs.Outcome.{or_else};
+ghost use Rattle.std.specs.Prelude.{◌≡◌, cond, ◌≤◌, ◌<◌};
+ghost use Rattle.paper.specs.Outcome.{or_else, verdict};
 ghost use Rattle.outcomes.specs.Told.{told_by};
+ghost use Rattle.outcomes.specs.Ruled.{ruled};
 
 use paper::{Outcome, Verdict};
 
@@ -23,6 +24,7 @@ pub fn broken_or(bad: bool, place: usize, later: usize) -> usize
 }
 
 // What such a number tells of its rule.
+#[tactic(auto, unfolding(crate::specs::Told::told_by))]
 pub fn told(place: usize) -> Outcome
     requires { place ≤ 65536 }
     ensures { result ≡ told_by place }
@@ -41,4 +43,16 @@ pub fn or_else(number: u32, outcome: Outcome, later: Verdict) -> Verdict
         return Verdict { number, place };
     }
     later
+}
+
+// One rule of several: a broken one is answered, and where it is kept the next may follow.
+#[tactic(auto, unfolding(crate::specs::Ruled::ruled))]
+pub fn rule(number: u32, outcome: Outcome) -> Result<(), Verdict>
+    requires { 0 < number }
+    ensures { result ≡ ruled (or_else number outcome (verdict 0 0)) tt }
+{
+    match outcome {
+        Outcome::Kept => Ok(()),
+        Outcome::Broken(place) => Err(Verdict { number, place }),
+    }
 }

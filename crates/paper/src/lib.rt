@@ -2,14 +2,16 @@
 // paper. `specs/` says what the rules mean, `proofs/` what follows from them; `proofs/Demands.antt` is the page to read first.
 #![tactic(auto)]
 
-// What every call answers first: 0 or the number of the broken rule, and its place.
+// What every call answers first: 0 or the number of the broken rule, and its place. Document 01 names its rules by these numbers alone, as C and the ledger do,
+// so they are no enum.
 #[derive(Clone, Copy)]
 pub struct Verdict {
     pub number: u32,
     pub place: u32,
 }
 
-// What one rule answers: it is kept, or it is broken at a place.
+// What one rule answers: it is kept, or it is broken at a place. It is no Option and no Result: the definitions of the rules and the theorems on them are stated in
+// these two words.
 #[derive(Clone, Copy)]
 pub enum Outcome {
     Kept,
@@ -84,7 +86,8 @@ pub struct Corners {
     pub y1: f64,
 }
 
-// The whole judgement of a file: verdict, the number of keys K, the minor revision of its key header, and its place on the ground.
+// The whole judgement of a file: verdict, the number of keys K, the minor revision of its key header, and its place on the ground. This and what follows are no
+// Results: a refusal tells zeros beside its verdict, as document 01 says of each call and as C is lent them.
 #[derive(Clone, Copy)]
 pub struct Judged {
     pub verdict: Verdict,
@@ -117,7 +120,7 @@ pub struct Cited {
     pub len: usize,
 }
 
-// Where a metadata text stands: in the file (from 0) or in the outside text (from 1).
+// Where a metadata text stands: in the file (from 0) or in the outside text (from 1), by C's number.
 #[derive(Clone, Copy)]
 pub struct Text {
     pub verdict: Verdict,

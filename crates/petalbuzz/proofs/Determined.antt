@@ -11,6 +11,8 @@ use denote.Triple.Clauses.{AtExit}
 use borrow.Fn.Claims.{AllOf}
 use borrow.Fn.Read.{Read, all_models, no_know, r_last}
 use borrow.Fn.World.{World, Pr, ArgsD, ResD}
+use Rattle.std.specs.Prelude.{Result}
+use Rattle.paper.specs.declared.Verdict.{Verdict}
 use Rattle.paper.specs.declared.Judged.{Judged}
 use Rattle.paper.specs.declared.Counted.{Counted}
 use Rattle.paper.specs.declared.BlockRead.{BlockRead}
@@ -46,7 +48,7 @@ Determined {K} {A} {R} {E} S Meets gets =
 
 -- ---- the judgement
 
-pub examine-determined : Determined Examined examine.Learnt (λ κs x s. x)
+pub examine-determined : Determined (Result Examined Verdict) examine.Learnt (λ κs x s. x)
 examine-determined κs a x y s t p q = p ∙ sym q
 
 pub judge-determined : Determined Judged judge.Learnt (λ κs x s. x)

@@ -1,4 +1,4 @@
-// The C interface: each call of the judge under a name for C. Numbers are answered through references, a slice is a pointer and a length, and
+// The C interface: each call of the judge under a name for C, with C's parameters. Numbers are answered through references, a slice is a pointer and a length, and
 // include/petalbuzz.h declares the same for C.
 #![tactic(auto)]
 
@@ -22,7 +22,7 @@ pub extern "C" fn petalbuzz_judge(file: &[u8], verdict: &mut u32, place: &mut u3
     *place = answer.verdict.place;
 }
 
-// The form of a georeference: 0 scaled, 1 affine.
+// The form of a georeference, by C's number: 0 scaled, 1 affine.
 fn form_of(g: Georeference) -> u32
     ensures { result ≡ form_of g }
 {
@@ -32,7 +32,7 @@ fn form_of(g: Georeference) -> u32
     }
 }
 
-// Its six doubles.
+// Its six doubles, in C's order.
 fn six_of(g: Georeference) -> [f64; 6]
     ensures { result ≡ six_of g }
 {

@@ -1,22 +1,19 @@
 -- What a gap is good for: a place that lies in it shares no byte with the list, and the gap around a place tells whether the place does. By
 -- induction over the parts. Assumes nothing.
-use Rattle.std.proofs.Common.{◌≡◌, ℕ, ◌+◌, ◌<◌, ◌≤◌, min, max, Bool, true, false, ◌||◌, eqb, ltb, leb, ◌⊎◌, List, [], ◌∷◌, refl, inl, inr, ⊎_elim, arith, ltb-false, ltb-true, le-ltb, lt-ltb, eq-eqb, eqb-true, le-leb, leb-true}
+use Rattle.std.proofs.Common.{◌≡◌, ℕ, ◌+◌, ◌<◌, ◌≤◌, min, max, Bool, true, false, cond, ◌||◌, eqb, ltb, leb, List, [], ◌∷◌, refl, ⊎_elim, zero-le, arith, ltb-false, ltb-true, le-ltb, lt-ltb, eq-eqb, eqb-true, le-leb, leb-true}
+use Rattle.std.proofs.lemmas.Bool.{or_cases}
 use mathlib.Core.Bool.{or-true}
 use Rattle.paper.specs.Tests.{all, some}
 use Rattle.paper.specs.Pieces.{part, shares}
 use Rattle.paper.specs.declared.Part.{Part}
 use Rattle.paper.proofs.Laws.{and-eq, and_both, or-false}
-use Rattle.pieces.specs.Gaps.{wide, clear, Found}
+use Rattle.pieces.specs.Gaps.{wide, clear, narrowed, Found}
 use Rattle.pieces.specs.declared.Gap.{Gap}
 
 -- clear by one of three reasons
 clear-empty : (lo hi : ℕ) (p : Part) → p.len ≡ 0 → clear lo hi p ≡ true
 unfolding clear
 clear-empty lo hi p e = rw (eq-eqb p.len 0 e)
-
-or_cases : (a b : Bool) → a || b ≡ true → (a ≡ true) ⊎ (b ≡ true)
-or_cases true b h = inl refl
-or_cases false b h = inr h
 
 clear-before : (lo hi : ℕ) (p : Part) → p.start + p.len ≤ lo → clear lo hi p ≡ true
 unfolding clear
@@ -144,26 +141,35 @@ module _ (s n : ℕ) where
                 let h : lo ≤ s = ltb-false _ _ e in
                 rw (shares-yes s l p (omega arith))
 
-  -- all parts were seen
-  pub found-gap : (ps : List Part) (lo hi : ℕ) → Around s n ps lo hi → Found s n ps (record { lo = lo; hi = hi })
-  found-gap ps lo hi g =
-      record {
-        low = g.low;
-        high = g.high;
-        clash = λ l a b c. ⊎_elim (λ e. g.held (ltb-true _ _ e) l a b) (λ e. g.reach l a (ltb-true _ _ e) b) (or_cases (ltb s lo) _ c);
-        free = λ l c.
-            let o = or-false (ltb s lo) _ c in
-            clear-free lo hi s l ps (ltb-false _ _ o.0) (ltb-false _ _ o.1) (g.clean (ltb-false _ _ o.0));
-        clean = λ t. g.clean (ltb-false _ _ t);
-      }
+  -- a part that counts, or one of at most 4 bytes, which does not
+  pub around-narrowed : (p : Part) (ps : List Part) (g : Gap) → Around s n ps g.lo g.hi
+      → Around s n (cond (wide p) (p ∷ ps) ps) (narrowed s g p).lo (narrowed s g p).hi
+  unfolding narrowed wide
+  around-narrowed p ps g a = go (ltb 4 p.len) refl
+    where
+      behind : (t : Bool) → ltb s p.start ≡ t → ltb 4 p.len ≡ true
+          → let r : Gap = cond t (record { lo = g.lo; hi = min g.hi p.start }) (record { lo = max g.lo (p.start + p.len); hi = g.hi }) in Around s n (p ∷ ps) r.lo r.hi
+      behind true q e = around-behind p ps g.lo g.hi a (ltb-true _ _ q) e
+      behind false q e = around-before p ps g.lo g.hi a (ltb-false _ _ q)
 
-  -- and back: further parts may be seen after them
-  pub gap-found : (ps : List Part) (g : Gap) → Found s n ps g → Around s n ps g.lo g.hi
-  gap-found ps g f =
+      go : (t : Bool) → ltb 4 p.len ≡ t → Around s n (cond (ltb 4 p.len) (p ∷ ps) ps) (narrowed s g p).lo (narrowed s g p).hi
+      go false e =
+          let z : ltb s 0 ≡ false = le-ltb s 0 zero-le in
+          let low = a.low in
+          let short : p.len ≤ 4 = ltb-false _ _ e in
+          let same : max g.lo (0 + p.len) ≡ g.lo = omega arith in
+          rw (e, z, same) a
+      go true e = rw e (behind (ltb s p.start) refl e)
+
+  -- all parts were seen
+  pub found-gap : (ps : List Part) (g : Gap) → Around s n ps g.lo g.hi → Found s n ps g
+  found-gap ps g a =
       record {
-        low = f.low;
-        high = f.high;
-        clean = λ a. f.clean (le-ltb s g.lo a);
-        held = λ a l b c. f.clash l b c (rw (lt-ltb s g.lo a));
-        reach = λ l b a c. f.clash l b c (rw (lt-ltb g.hi (s + l) a) (or-true (ltb s g.lo)));
+        low = a.low;
+        high = a.high;
+        clash = λ l b c d. ⊎_elim (λ e. a.held (ltb-true _ _ e) l b c) (λ e. a.reach l b (ltb-true _ _ e) c) (or_cases (ltb s g.lo) _ d);
+        free = λ l c.
+            let o = or-false (ltb s g.lo) _ c in
+            clear-free g.lo g.hi s l ps (ltb-false _ _ o.0) (ltb-false _ _ o.1) (a.clean (ltb-false _ _ o.0));
+        clean = λ t. a.clean (ltb-false _ _ t);
       }

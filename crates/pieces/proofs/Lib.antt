@@ -1,7 +1,6 @@
 -- The laws that the proofs of this crate share. Assumes nothing.
 pub mod Gaps
-pub mod Answers
-pub mod Passing
+pub mod Listed
 pub mod Spans
-pub mod Alone
-pub mod Each
+pub mod Passing
+pub mod Eight

@@ -1,390 +1,395 @@
--- The pass over the places: what rules 13 and 14 say of the next one, and one law for each turn and each answer of `skip_run`, `after_clash`
--- and `judge_places`. Assumes nothing.
-use Rattle.std.proofs.Common.{◌≡◌, ℕ, zero, suc, ◌+◌, ◌*◌, ◌<◌, ◌≤◌, min, max, Bool, true, false, cond, ◌&&◌, ◌||◌, eqb, ltb, List, [], ◌∷◌, sym, refl, ap, ◌∙◌, suc-le-suc, zero-le, lt_irrefl, mul-le-mul_left, mul-suc, arith, lit<, ltb-false, le-ltb}
+-- The pass over the places: what rules 13 and 14 say of the next one, and one law for each turn and each answer of the search, of `judge_places`, of
+-- `judge_within` and of `clashes_all`. Assumes nothing.
+use Rattle.std.proofs.Common.{◌≡◌, ℕ, zero, suc, ◌+◌, ◌-◌, ◌<◌, ◌≤◌, min, max, Bool, true, false, cond, not, ◌||◌, eqb, ltb, Option, Some, None, IfSome, Ok, Err, List, [], ◌∷◌, sym, refl, ap, ◌∙◌, suc-le-suc, zero-le, arith, ltb-false, le-ltb}
+use Rattle.std.proofs.lemmas.Bool.{not-false}
+use mathlib.Core.Bool.{false≢true}
 use native.Mathlib.Nat.{sub-zero}
 use borrow.Author.Tests.{eqb-false}
 use Rattle.order.specs.Width.{width}
-use Rattle.paper.specs.Bytes.{num, build}
-use Rattle.paper.specs.Outcome.{first_bad, or_else, first, verdict}
+use Rattle.outcomes.specs.Ruled.{ruled}
+use Rattle.paper.specs.Bytes.{build}
+use Rattle.paper.specs.Outcome.{first_bad, or_else, first, ◌▸◌, verdict}
 use Rattle.paper.specs.Tests.{all, some}
-use Rattle.paper.specs.Pieces.{part, Piece, shares, place_at, places_of, bad_piece, touches, rule13, rule14}
+use Rattle.paper.specs.Pieces.{Piece, shares, place_at, places_of, bad_piece, touches, rule13, rule14}
 use Rattle.paper.specs.declared.Part.{Part}
 use Rattle.paper.specs.declared.Outcome.{Outcome}
 use Rattle.paper.specs.declared.Outcome.TheVariants.{Kept as kept, Broken as broken}
 use Rattle.paper.specs.declared.Verdict.{Verdict}
-use Rattle.paper.proofs.Laws.{build-step, or-false, or-both}
+use Rattle.paper.proofs.Laws.{build-step, or-false, or-both, kept-cond}
 use Rattle.paper.proofs.Loops.{build-end}
-use Rattle.pieces.specs.Gaps.{clear, Found, Skipped, Reached, from_place, places_judged, placed_of}
-use Rattle.pieces.specs.Spans.{no_span, lone, widened, span_from, span_of, placed}
+use Rattle.pieces.specs.Gaps.{clear, leaves, out, Found}
+use Rattle.pieces.specs.Reading.{pieces_in, pieces_from, body, Fetched, Opened, Reached, left}
+use Rattle.pieces.specs.Spans.{no_span, lone, widened, span_from, span_of, within_of, places_judged, placed_of}
 use Rattle.pieces.specs.declared.Gap.{Gap}
-use Rattle.pieces.specs.declared.Placed.{Placed}
-use Rattle.pieces.specs.declared.Reach.{Reach}
 use Rattle.pieces.specs.declared.Span.{Span}
-use Rattle.pieces.specs.declared.Stop.{Stop}
+use Rattle.pieces.specs.declared.places.Place.{Place}
+use Rattle.pieces.specs.declared.places.Places.{Places}
+use Rattle.pieces.specs.declared.places.Reach.{Reach}
+use Rattle.pieces.specs.declared.places.Stop.{Stop}
 use Rattle.pieces.proofs.Gaps.{clear-free}
-
--- number i of k lies in a run that has room for k
-pub next_fits : (w k n i : ℕ) → w * k ≤ n → i < k → w * i + w ≤ n
-next_fits w k n i h l =
-    let m : w * suc i ≤ w * k = mul-le-mul_left w l in
-    omega (arith, mul-suc w i)
-
--- and so does number 0, where there is one
-pub first_fits : (w k n : ℕ) → w * k ≤ n → (k ≡ 0 → ⊥) → w * 0 + w ≤ n
-first_fits w zero n h z = absurd (z refl)
-first_fits w (suc k) n h z = next_fits w (suc k) n 0 h (suc-le-suc zero-le)
-
--- what a test has answered stands for what it asked: of the width of a run, and of runs that a search is to go through
-pub room_as : (w x : Bool) (k n : ℕ) → w ≡ x → width w * k ≤ n → width x * k ≤ n
-room_as w x k n e h = rw e at h
-
-pub skipped-as : (big w v : Bool) (offsets bytecounts : List ℕ) (k lo hi from : ℕ) (s : Stop) (z x y : Bool) → big ≡ z → w ≡ x → v ≡ y
-    → Skipped z (width x) offsets (width y) bytecounts k lo hi from s → Skipped big (width w) offsets (width v) bytecounts k lo hi from s
-skipped-as big w v offsets bytecounts k lo hi from s z x y is-z is_x is_y sk = rw (is-z, is_x, is_y) sk
-
-pub reached-as : (big w v : Bool) (offsets bytecounts : List ℕ) (k lo hi from : ℕ) (spanned : Bool) (given : Span) (r : Reach) (z x y : Bool) → big ≡ z → w ≡ x → v ≡ y
-    → Reached z (width x) offsets (width y) bytecounts k lo hi from spanned given r → Reached big (width w) offsets (width v) bytecounts k lo hi from spanned given r
-reached-as big w v offsets bytecounts k lo hi from spanned given r z x y is-z is_x is_y re = rw (is-z, is_x, is_y) re
-
--- the next place has an index of 64 bits
-pub next_small : (i k : ℕ) → i < k → k < 4294967296 → i + 1 < 18446744073709551616
-next_small i k l s = omega arith
+use Rattle.pieces.proofs.Spans.{span-apart}
 
 -- a place that counts its bytes has some
-pub some_bytes : (x : ℕ) → eqb x 0 ≡ false → 0 < x
+some_bytes : (x : ℕ) → eqb x 0 ≡ false → 0 < x
 some_bytes zero h = absurd (eqb-false 0 0 h refl)
 some_bytes (suc x) h = suc-le-suc zero-le
 
-pub or_turned : (x y z : Bool) → x || (y || z) ≡ true → y || (x || z) ≡ true
+-- a place that is out of the whole file is bad there
+or_turned : (x y z : Bool) → x || (y || z) ≡ true → y || (x || z) ≡ true
 or_turned true true z h = refl
 or_turned true false z h = refl
 or_turned false true z h = refl
 or_turned false false z h = h
 
--- ---- the answers of judge_places, by the outcomes of the two rules
+-- how many places are left behind a stop, and it
+abbrev pub ahead : ℕ → Option Stop → ℕ
+ahead k None = 0
+ahead k (Some s) = k - s.at
 
-module _ (n : ℕ) (ps : List Part) (ss : List Piece) where
-  answer-13 : (i : ℕ) → rule13 n ss ≡ broken i → verdict 13 i ≡ places_judged n ps ss
-  unfolding places_judged first
-  answer-13 i h = rw h
-
-  answer-14 : (i : ℕ) (v : Verdict) → rule14 ps ss ≡ broken i → v ≡ or_else 13 (rule13 n ss) (verdict 14 i) → v ≡ places_judged n ps ss
-  unfolding places_judged first
-  answer-14 i v h e = rw h e
-
-  answer-0 : rule13 n ss ≡ kept → rule14 ps ss ≡ kept → verdict 0 0 ≡ places_judged n ps ss
-  unfolding places_judged first
-  answer-0 h e = rw (h, e)
-
-  -- with the span, or with none
-  module _ (spanned : Bool) where
-    placed-bad : (v : Verdict) → v ≡ places_judged n ps ss → eqb v.number 0 ≡ false → placed v no_span ≡ placed_of spanned n ps ss
-    unfolding placed_of
-    placed-bad v e h = rw (← e, h) (none spanned)
-      where
-        none : (b : Bool) → placed v no_span ≡ placed v (cond (b && false) (span_of ss) no_span)
-        none true = refl
-        none false = refl
-
-    placed-good : (s : Span) → verdict 0 0 ≡ places_judged n ps ss → (spanned ≡ true → span_of ss ≡ s)
-        → placed (verdict 0 0) (cond spanned s no_span) ≡ placed_of spanned n ps ss
-    unfolding placed_of
-    placed-good s e h = rw (← e) (go spanned h)
-      where
-        go : (b : Bool) → (b ≡ true → span_of ss ≡ s)
-            → placed (verdict 0 0) (cond b s no_span) ≡ placed (verdict 0 0) (cond (b && true) (span_of ss) no_span)
-        go true h = rw (h refl)
-        go false h = refl
-
--- an answer of after_clash refuses
-after-refuses : (o : Outcome) (i : ℕ) → eqb (or_else 13 o (verdict 14 i)).number 0 ≡ false
-after-refuses kept i = refl
-after-refuses (broken j) i = refl
-
-least-same : (x : ℕ) → min x x ≡ x
-least-same x = omega arith
-
-most-same : (x : ℕ) → max x x ≡ x
-most-same x = omega arith
-
--- the first place widens its own span by nothing
+-- a first place widens its own span by nothing
 lone-first : (p : Piece) (ss : List Piece) → span_of (p ∷ ss) ≡ span_from (lone p.place) (p ∷ ss)
 unfolding span_of span_from widened
-lone-first p ss = rw (least-same p.place.start, most-same (p.place.start + p.place.len))
+lone-first p ss = rw (least p.place.start, most (p.place.start + p.place.len))
+  where
+    least : (x : ℕ) → min x x ≡ x
+    least x = omega arith
 
-module _ (big : Bool) (a : ℕ) (offsets : List ℕ) (b : ℕ) (bytecounts : List ℕ) (k : ℕ) where
-  abbrev pub Places : List Piece
-  Places = places_of big a offsets b bytecounts k
+    most : (x : ℕ) → max x x ≡ x
+    most x = omega arith
 
-  abbrev pub From : ℕ → List Piece
-  From i = from_place big a offsets b bytecounts i k
+-- ---- rule 14 by the places that share a byte with the list
 
-  pub from_start : Places ≡ From 0
-  unfolding from_place places_of
-  from_start = ap (build (place_at big a offsets b bytecounts) 0) (sym (sub-zero k))
+pub fourteen-is : (ps : List Part) (ss : List Piece) → (first (14 ▸ rule14 ps ss ∷ [])).number ≡ cond (some (touches ps) ss) 14 0
+unfolding first rule14 first_bad some
+fourteen-is ps [] = refl
+fourteen-is ps (s ∷ ss) = go (touches ps s) (fourteen-is ps ss)
+  where
+    go : (t : Bool) → (first (14 ▸ rule14 ps ss ∷ [])).number ≡ cond (some (touches ps) ss) 14 0
+        → (first (14 ▸ cond t (broken s.index) (rule14 ps ss) ∷ [])).number ≡ cond (t || some (touches ps) ss) 14 0
+    go true h = refl
+    go false h = h
+
+some-touched : (ps : List Part) (ss : List Piece) (i : ℕ) → rule14 ps ss ≡ broken i → some (touches ps) ss ≡ true
+unfolding first
+some-touched ps ss i h = go (some (touches ps) ss) (sym (fourteen-is ps ss) ∙ ap (λ (o : Outcome). (first (14 ▸ o ∷ [])).number) h)
+  where
+    go : (t : Bool) → cond {A = ℕ} t 14 0 ≡ 14 → t ≡ true
+    go true e = refl
+    go false e = absurd (omega arith)
+
+none-touched : (ps : List Part) (ss : List Piece) → rule14 ps ss ≡ kept → some (touches ps) ss ≡ false
+unfolding rule14 first_bad some
+none-touched ps [] h = refl
+none-touched ps (s ∷ ss) h =
+    let o = kept-cond (touches ps s) s.index (rule14 ps ss) h in
+    rw o.0 (none-touched ps ss o.1)
+
+module _ (p : Places) where
+  abbrev All : List Piece
+  All = pieces_in p
+
+  abbrev From : ℕ → List Piece
+  From i = pieces_from p i
+
+  from_start : All ≡ From 0
+  unfolding pieces_in pieces_from places_of
+  from_start = ap (build (place_at p.big (width p.wideoffsets) p.offsets.now (width p.widebytecounts) p.bytecounts.now) 0) (sym (sub-zero p.many))
 
   -- no place is left
-  module _ (i : ℕ) (l : i ≤ k) (m : k ≤ i) where
-    pub from_end : From i ≡ []
-    unfolding from_place
-    from_end = let e : i ≡ k = omega arith in rw e (build-end (place_at big a offsets b bytecounts) k)
+  pub from_end : (i : ℕ) → i ≤ p.many → p.many ≤ i → From i ≡ []
+  unfolding pieces_from
+  from_end i l m = let e : i ≡ p.many = omega arith in rw e (build-end (place_at p.big (width p.wideoffsets) p.offsets.now (width p.widebytecounts) p.bytecounts.now) p.many)
 
-    pub none-13 : (n : ℕ) → rule13 n (From i) ≡ kept
-    unfolding rule13 first_bad
-    none-13 n = ap (rule13 n) from_end
+  -- ---- a place that was fetched
 
-    pub none-14 : (ps : List Part) → rule14 ps (From i) ≡ kept
-    unfolding rule14 first_bad
-    none-14 ps = ap (rule14 ps) from_end
-
-    pub none-span : (s : Span) → span_from s (From i) ≡ s
-    unfolding span_from
-    none-span s = ap (span_from s) from_end
-
-  -- ---- place i, with the offset and the byte count that code fetched
-
-  module _ (i : ℕ) (l : i < k) (start len : ℕ) (is-start : start ≡ num big a offsets (a * i)) (is-len : len ≡ num big b bytecounts (b * i)) where
-    pub here : From i ≡ record { index = i; place = part start len } ∷ From (i + 1)
-    unfolding from_place place_at
+  module _ (s : Stop) (f : Fetched p s) where
+    here : From s.at ≡ record { index = s.at; place = body s.place } ∷ From (s.at + 1)
+    unfolding pieces_from place_at
     here =
-        build-step (place_at big a offsets b bytecounts) i k l
-        ∙ sym (λ j. record { index = i; place = part (is-start j) (is-len j) } ∷ From (i + 1))
+        build-step (place_at p.big (width p.wideoffsets) p.offsets.now (width p.widebytecounts) p.bytecounts.now) s.at p.many f.low
+        ∙ ap (λ (x : Part). record { index = s.at; place = x } ∷ From (s.at + 1)) (sym f.is)
 
-    module _ (n : ℕ) where
-      pub bad-here : eqb len 0 || (ltb start 8 || ltb n (start + len)) ≡ true → rule13 n (From i) ≡ broken i
-      unfolding rule13 first_bad bad_piece
-      bad-here h = ap (rule13 n) here ∙ rw h
+    bad-here : (n : ℕ) → eqb s.place.len 0 || (ltb s.place.start 8 || ltb n (s.place.start + s.place.len)) ≡ true → rule13 n (From s.at) ≡ broken s.at
+    unfolding rule13 first_bad bad_piece
+    bad-here n h = ap (rule13 n) here ∙ rw h
 
-      pub good-here : eqb len 0 || (ltb start 8 || ltb n (start + len)) ≡ false → rule13 n (From i) ≡ rule13 n (From (i + 1))
-      unfolding rule13 first_bad bad_piece
-      good-here h = ap (rule13 n) here ∙ rw h
+    good-here : (n : ℕ) → eqb s.place.len 0 || (ltb s.place.start 8 || ltb n (s.place.start + s.place.len)) ≡ false → rule13 n (From s.at) ≡ rule13 n (From (s.at + 1))
+    unfolding rule13 first_bad bad_piece
+    good-here n h = ap (rule13 n) here ∙ rw h
 
-    module _ (ps : List Part) where
-      clash-here : some (shares (part start len)) ps ≡ true → rule14 ps (From i) ≡ broken i
-      unfolding rule14 first_bad touches
-      clash-here h = ap (rule14 ps) here ∙ rw h
+    clash-here : (ps : List Part) → some (shares (body s.place)) ps ≡ true → rule14 ps (From s.at) ≡ broken s.at
+    unfolding rule14 first_bad touches
+    clash-here ps h = ap (rule14 ps) here ∙ rw h
 
-      free-here : some (shares (part start len)) ps ≡ false → rule14 ps (From i) ≡ rule14 ps (From (i + 1))
-      unfolding rule14 first_bad touches
-      free-here h = ap (rule14 ps) here ∙ rw h
+    free-here : (ps : List Part) → some (shares (body s.place)) ps ≡ false → rule14 ps (From s.at) ≡ rule14 ps (From (s.at + 1))
+    unfolding rule14 first_bad touches
+    free-here ps h = ap (rule14 ps) here ∙ rw h
 
-    span-here : (s : Span) → span_from s (From i) ≡ span_from (widened s (part start len)) (From (i + 1))
+    span-here : (t : Span) → span_from t (From s.at) ≡ span_from (widened t (body s.place)) (From (s.at + 1))
     unfolding span_from
-    span-here s = ap (span_from s) here
+    span-here t = ap (span_from t) here
 
-  -- ---- skip_run: the places before i have bytes and lie from lo up to hi
+  -- ---- first
 
-  module _ (lo hi from : ℕ) where
-    pub record Passed (i : ℕ) : Type 0 where
-      pub thirteen : (n : ℕ) → 8 ≤ lo → hi ≤ n → rule13 n (From from) ≡ rule13 n (From i)
-      pub fourteen : (ps : List Part) → (lo < hi → all (clear lo hi) ps ≡ true) → rule14 ps (From from) ≡ rule14 ps (From i)
+  pub opened-none : p.many ≡ 0 → Opened p (record { stop = None; span = no_span })
+  unfolding span_of span_from
+  opened-none z =
+      let none = from_start ∙ from_end 0 (omega arith) (omega arith) in
+      record { stop = tt; all_left = none; span = ap span_of none }
 
-    pub passed_start : Passed from
-    passed_start = record { thirteen = λ n l h. refl; fourteen = λ ps h. refl }
+  pub opened-some : (x : Place) → Fetched p (record { at = 0; place = x }) → (t : Span) → t ≡ lone (body x)
+      → Opened p (record { stop = Some (record { at = 0; place = x }); span = t })
+  opened-some x f t e =
+      let h = here (record { at = 0; place = x }) f in
+      record {
+        stop = (refl, f, e);
+        all_left = from_start;
+        span = ap span_of (from_start ∙ h) ∙ lone-first (record { index = 0; place = body x }) (From 1) ∙ ap (span_from (lone (body x))) (sym h)
+            ∙ ap (λ (y : Span). span_from y (From 0)) (sym e);
+      }
 
-    module _ (i : ℕ) (low : from ≤ i) (high : i ≤ k) (p : Passed i) where
-      pub passed-end : k ≤ i → Skipped big a offsets b bytecounts k lo hi from (record { at = k; start = 0; len = 0 })
+  -- ---- search: the places before i have bytes and lie in the gap, and where a span is asked for they have widened the given one
+
+  module _ (spanned : Bool) (from : ℕ) (g : Gap) (given : Span) where
+    pub record Passed (i : ℕ) (span : Span) : Type 0 where
+      pub low : from ≤ i
+      pub high : i ≤ p.many
+      pub thirteen : (n : ℕ) → 8 ≤ g.lo → g.hi ≤ n → rule13 n (From from) ≡ rule13 n (From i)
+      pub fourteen : (ps : List Part) → (g.lo < g.hi → all (clear g.lo g.hi) ps ≡ true) → rule14 ps (From from) ≡ rule14 ps (From i)
+      pub wider : spanned ≡ true → span_from given (From from) ≡ span_from span (From i)
+
+    pub passed-start : from ≤ p.many → Passed from given
+    passed-start h = record { low = omega arith; high = h; thirteen = λ n l k. refl; fourteen = λ ps k. refl; wider = λ t. refl }
+
+    module _ (i : ℕ) (span : Span) (q : Passed i span) where
+      pub passed-end : p.many ≤ i → Reached p spanned from g given (record { stop = None; span = span })
       passed-end m =
-          let e : i ≡ k = omega arith in
+          let e = from_end i q.high m in
           record {
-            low = omega arith;
-            high = omega arith;
-            start = λ l. absurd (lt_irrefl k l);
-            len = λ l. absurd (lt_irrefl k l);
-            small = (lit< tt, lit< tt);
-            out = λ l. absurd (lt_irrefl k l);
-            thirteen = λ n l h. p.thirteen n l h ∙ ap (λ (j : ℕ). rule13 n (From j)) e;
-            fourteen = λ ps h. p.fourteen ps h ∙ ap (λ (j : ℕ). rule14 ps (From j)) e;
+            stop = tt;
+            thirteen = λ n l h. q.thirteen n l h ∙ ap (rule13 n) e;
+            fourteen = λ ps h. q.fourteen ps h ∙ ap (rule14 ps) e;
+            wider = λ t. q.wider t ∙ ap (span_from span) e;
           }
 
-      module _ (start len : ℕ) (is-start : start ≡ num big a offsets (a * i)) (is-len : len ≡ num big b bytecounts (b * i)) where
-        pub passed-stop : start < 4294967296 → len < 4294967296 → (out : Bool) → out ≡ ltb start lo || (eqb len 0 || ltb hi (start + len)) → out ≡ true
-            → Skipped big a offsets b bytecounts k lo hi from (record { at = i; start = start; len = len })
-        passed-stop x y out is-out t =
-            record {
-              low = low;
-              high = high;
-              start = λ l. is-start;
-              len = λ l. is-len;
-              small = (x, y);
-              out = λ l. sym is-out ∙ t;
-              thirteen = p.thirteen;
-              fourteen = p.fourteen;
-            }
+      module _ (x : Place) (f : Fetched p (record { at = i; place = x })) (o : Bool) (is-o : o ≡ out g (body x)) where
+        pub passed-stop : o ≡ true → Reached p spanned from g given (record { stop = Some (record { at = i; place = x }); span = span })
+        passed-stop t =
+            record { stop = (q.low, f, sym is-o ∙ t); thirteen = q.thirteen; fourteen = q.fourteen; wider = q.wider }
 
-        pub passed-turn : i < k → (out : Bool) → out ≡ ltb start lo || (eqb len 0 || ltb hi (start + len)) → out ≡ false → Passed (i + 1)
-        passed-turn l out is-out t =
+        pub passed-turn : o ≡ false → (w : Span) → w ≡ cond spanned (widened span (body x)) span → Passed (i + 1) w
+        passed-turn t w is-w =
             record {
-              thirteen = λ n x y. p.thirteen n x y ∙ good-here i l start len is-start is-len n
-                  (or-both _ _ rest.0 (or-both _ _ (le-ltb start 8 (omega (arith, before))) (le-ltb n (start + len) (omega (arith, behind)))));
-              fourteen = λ ps h. p.fourteen ps h ∙ free-here i l start len is-start is-len ps
-                  (clear-free lo hi start len ps before behind (h (omega (arith, before, behind, some_bytes len rest.0))));
+              low = let l = q.low in omega arith;
+              high = let l = f.low in omega arith;
+              thirteen = λ n l h. q.thirteen n l h ∙ good-here _ f n
+                  (or-both _ _ rest.0 (or-both _ _ (le-ltb x.start 8 (omega (arith, before))) (le-ltb n (x.start + x.len) (omega (arith, behind)))));
+              fourteen = λ ps h. q.fourteen ps h ∙ free-here _ f ps
+                  (clear-free g.lo g.hi x.start x.len ps before behind (h (omega (arith, before, behind, some_bytes x.len rest.0))));
+              wider = λ u. q.wider u ∙ span-here _ f span ∙ ap (λ (y : Span). span_from y (From (i + 1))) (sym (is-w ∙ rw u));
             }
           where
-            halves : (ltb start lo ≡ false) × (eqb len 0 || ltb hi (start + len) ≡ false)
-            halves = or-false (ltb start lo) _ (sym is-out ∙ t)
+            halves : (ltb x.start g.lo ≡ false) × (eqb x.len 0 || ltb g.hi (x.start + x.len) ≡ false)
+            halves = or-false (ltb x.start g.lo) _ (sym is-o ∙ t)
 
-            rest : (eqb len 0 ≡ false) × (ltb hi (start + len) ≡ false)
-            rest = or-false (eqb len 0) _ halves.1
+            rest : (eqb x.len 0 ≡ false) × (ltb g.hi (x.start + x.len) ≡ false)
+            rest = or-false (eqb x.len 0) _ halves.1
 
-            before : lo ≤ start
+            before : g.lo ≤ x.start
             before = ltb-false _ _ halves.0
 
-            behind : start + len ≤ hi
+            behind : x.start + x.len ≤ g.hi
             behind = ltb-false _ _ rest.1
 
-    -- ---- span_run: and they have widened the given span
+  -- ---- a search over the places that lie in the file, behind its head
 
-    module _ (given : Span) (i : ℕ) (s : Span) (low : from ≤ i) (high : i ≤ k) (p : Passed i) (wider : span_from given (From from) ≡ span_from s (From i)) where
-      pub reached-end : k ≤ i → Reached big a offsets b bytecounts k lo hi from true given (record { stop = record { at = k; start = 0; len = 0 }; span = s })
-      reached-end m =
-          let e : i ≡ k = omega arith in
-          record { skipped = passed-end i low high p m; wider = λ t. wider ∙ ap (λ (j : ℕ). span_from s (From j)) e }
+  module _ (n from : ℕ) (spanned : Bool) (given : Span) (r : Reach) (re : Reached p spanned from (record { lo = 8; hi = n }) given r) where
+    on : rule13 n (From from) ≡ rule13 n (left p r.stop)
+    on = re.thirteen n (omega arith) (omega arith)
 
-      module _ (start len : ℕ) (is-start : start ≡ num big a offsets (a * i)) (is-len : len ≡ num big b bytecounts (b * i)) where
-        pub reached-stop : start < 4294967296 → len < 4294967296 → (out : Bool) → out ≡ ltb start lo || (eqb len 0 || ltb hi (start + len)) → out ≡ true
-            → Reached big a offsets b bytecounts k lo hi from true given (record { stop = record { at = i; start = start; len = len }; span = s })
-        reached-stop x y out is-out t = record { skipped = passed-stop i low high p start len is-start is-len x y out is-out t; wider = λ u. wider }
+    file-none : r.stop ≡ None → rule13 n (From from) ≡ kept
+    unfolding rule13 first_bad
+    file-none e = on ∙ ap (λ (o : Option Stop). rule13 n (left p o)) e
 
-        pub reached-turn : i < k → (w : Span) → w ≡ widened s (part start len) → span_from given (From from) ≡ span_from w (From (i + 1))
-        reached-turn l w e = wider ∙ span-here i l start len is-start is-len s ∙ ap (λ (x : Span). span_from x (From (i + 1))) (sym e)
+    file-bad : (s : Stop) → r.stop ≡ Some s → rule13 n (From from) ≡ broken s.at
+    file-bad s e =
+        let h = rw e at re.stop in
+        on ∙ ap (λ (o : Option Stop). rule13 n (left p o)) e ∙ bad-here s h.1 n (or_turned (ltb s.place.start 8) (eqb s.place.len 0) (ltb n (s.place.start + s.place.len)) h.2)
+
+    -- after_clash
+    pub later-none : r.stop ≡ None → (clash : ℕ) → verdict 14 clash ≡ or_else 13 (rule13 n (From from)) (verdict 14 clash)
+    later-none e clash = rw (file-none e)
+
+    pub later-bad : (s : Stop) → r.stop ≡ Some s → (clash : ℕ) → verdict 13 s.at ≡ or_else 13 (rule13 n (From from)) (verdict 14 clash)
+    later-bad s e clash = rw (file-bad s e)
+
+  -- ---- the answers, by the outcomes of the two rules
 
   module _ (n : ℕ) where
-    -- ---- after_clash: a search over the places that lie from 8 up to n
+    within-bad : (i : ℕ) → rule13 n All ≡ broken i → Err (verdict 13 i) ≡ within_of n All
+    unfolding within_of first ruled
+    within-bad i h = rw h refl
 
-    module _ (clash from : ℕ) (s : Stop) (sk : Skipped big a offsets b bytecounts k 8 n from s) where
-      abbrev Answer : Outcome → Verdict
-      Answer o = or_else 13 o (verdict 14 clash)
+    within-good : (s : Span) → rule13 n All ≡ kept → span_of All ≡ s → Ok s ≡ within_of n All
+    unfolding within_of first ruled
+    within-good s h e = rw (h, e) refl
 
-      on : rule13 n (From from) ≡ rule13 n (From s.at)
-      on = sk.thirteen n (omega arith) (omega arith)
+  module _ (n : ℕ) (ps : List Part) (spanned : Bool) where
+    answer-13 : (i : ℕ) → rule13 n All ≡ broken i → Err (verdict 13 i) ≡ placed_of spanned n ps All
+    unfolding placed_of places_judged first ruled
+    answer-13 i h = rw h refl
 
-      pub later-none : k ≤ s.at → verdict 14 clash ≡ Answer (rule13 n (From from))
-      later-none m = sym (ap Answer (on ∙ none-13 s.at sk.high m n))
+    answer-14 : (i : ℕ) (v : Verdict) → rule14 ps All ≡ broken i → v ≡ or_else 13 (rule13 n All) (verdict 14 i) → Err v ≡ placed_of spanned n ps All
+    unfolding placed_of places_judged first ruled
+    answer-14 i v h e = rw (e, h) (go (rule13 n All))
+      where
+        go : (o : Outcome) → Err (or_else 13 o (verdict 14 i)) ≡ ruled (or_else 13 o (verdict 14 i)) (cond spanned (span_of All) no_span)
+        go kept = refl
+        go (broken j) = refl
 
-      pub later-bad : s.at < k → verdict 13 s.at ≡ Answer (rule13 n (From from))
-      later-bad l =
-          let bad = or_turned (ltb s.start 8) (eqb s.len 0) (ltb n (s.start + s.len)) (sk.out l) in
-          sym (ap Answer (on ∙ bad-here s.at l s.start s.len (sk.start l) (sk.len l) n bad))
+    answer-0 : rule13 n All ≡ kept → rule14 ps All ≡ kept → (s : Span) → (spanned ≡ true → span_of All ≡ s) → Ok (cond spanned s no_span) ≡ placed_of spanned n ps All
+    unfolding placed_of places_judged first ruled
+    answer-0 h e s k = rw (h, e) (ap Ok (go spanned k))
+      where
+        go : (b : Bool) → (b ≡ true → span_of All ≡ s) → cond b s no_span ≡ cond b (span_of All) no_span
+        go true k = sym (k refl)
+        go false k = refl
 
-    -- ---- judge_places
+    -- ---- judge_places: a place was fetched, or none is left, and the places before keep both rules and have the given span
 
-    module _ (ps : List Part) (spanned : Bool) where
-      abbrev Asked : Placed
-      Asked = placed_of spanned n ps Places
+    pub record Standing (next : Option Stop) (span : Span) : Type 0 where
+      pub fetched : IfSome next (Fetched p)
+      pub thirteen : rule13 n All ≡ rule13 n (left p next)
+      pub fourteen : rule14 ps All ≡ rule14 ps (left p next)
+      pub wider : spanned ≡ true → span_of All ≡ span_from span (left p next)
 
-      -- no place is there
-      pub places-none : k ≡ 0 → (r : Placed) → r ≡ placed (verdict 0 0) no_span → r ≡ Asked
-      unfolding span_of
-      places-none z r e = e ∙ same spanned ∙ placed-good n ps Places spanned no_span judged (λ t. ap span_of none)
-        where
-          none : Places ≡ []
-          none = from_start ∙ from_end 0 (omega arith) (omega arith)
+    pub standing-end : (next : Option Stop) (span : Span) → Standing next span → next ≡ None → (sp : Bool) → spanned ≡ sp
+        → Ok (cond sp span no_span) ≡ placed_of spanned n ps All
+    unfolding rule13 rule14 first_bad span_from
+    standing-end next span st e sp same =
+        ap (λ (b : Bool). Ok (cond b span no_span)) (sym same)
+        ∙ answer-0 (st.thirteen ∙ ap (λ (o : Option Stop). rule13 n (left p o)) e) (st.fourteen ∙ ap (λ (o : Option Stop). rule14 ps (left p o)) e) span
+        (λ t. st.wider t ∙ ap (λ (o : Option Stop). span_from span (left p o)) e)
 
-          judged : verdict 0 0 ≡ places_judged n ps Places
-          judged = answer-0 n ps Places (ap (rule13 n) from_start ∙ none-13 0 (omega arith) (omega arith) n) (ap (rule14 ps) from_start ∙ none-14 0 (omega arith) (omega arith) ps)
+    module _ (s : Stop) (span : Span) (st : Standing (Some s) span) (bad : Bool)
+        (is-bad : bad ≡ eqb s.place.len 0 || (ltb s.place.start 8 || ltb n (s.place.start + s.place.len))) where
+      pub standing-bad : bad ≡ true → Err (verdict 13 s.at) ≡ placed_of spanned n ps All
+      standing-bad t = answer-13 s.at (st.thirteen ∙ bad-here s st.fetched n (sym is-bad ∙ t))
 
-          same : (b : Bool) → placed (verdict 0 0) no_span ≡ placed (verdict 0 0) (cond b no_span no_span)
-          same true = refl
-          same false = refl
+      module _ (ok : bad ≡ false) where
+        fine : (eqb s.place.len 0 ≡ false) × (ltb s.place.start 8 || ltb n (s.place.start + s.place.len) ≡ false)
+        fine = or-false (eqb s.place.len 0) _ (sym is-bad ∙ ok)
 
-      -- place `at` was fetched, and the places before it keep both rules and have the given span; the span of the first place is there from the start
-      pub record Standing (at start len : ℕ) (s : Span) : Type 0 where
-        pub high : at ≤ k
-        pub start_is : at < k → start ≡ num big a offsets (a * at)
-        pub len_is : at < k → len ≡ num big b bytecounts (b * at)
-        pub small : (start < 4294967296) × (len < 4294967296)
-        pub thirteen : rule13 n Places ≡ rule13 n (From at)
-        pub fourteen : rule14 ps Places ≡ rule14 ps (From at)
-        pub span : spanned ≡ true → span_of Places ≡ span_from s (From at)
+        inside : (ltb s.place.start 8 ≡ false) × (ltb n (s.place.start + s.place.len) ≡ false)
+        inside = or-false (ltb s.place.start 8) _ fine.1
 
-      pub standing-first : (k ≡ 0 → ⊥) → (start len : ℕ) → start ≡ num big a offsets (a * 0) → start < 4294967296 → len ≡ num big b bytecounts (b * 0) → len < 4294967296
-          → Standing 0 start len (record { low = start; high = start + len })
-      standing-first z start len is-start x is-len y =
-          let l : 0 < k = omega arith in
-          let first-is = here 0 l start len is-start is-len in
-          record {
-            high = omega arith;
-            start_is = λ l. is-start;
-            len_is = λ l. is-len;
-            small = (x, y);
-            thirteen = ap (rule13 n) from_start;
-            fourteen = ap (rule14 ps) from_start;
-            span = λ t.
-                ap span_of (from_start ∙ first-is) ∙ lone-first (record { index = 0; place = part start len }) (From 1)
-                ∙ ap (span_from (record { low = start; high = start + len })) (sym first-is);
-          }
+        pub starts-low : 8 ≤ s.place.start
+        starts-low = ltb-false _ _ inside.0
 
-      module _ (at start len : ℕ) (s : Span) (st : Standing at start len s) where
-        pub standing-end : k ≤ at → (r : Placed) → r ≡ placed (verdict 0 0) (cond spanned s no_span) → r ≡ Asked
-        standing-end m r e =
-            e ∙ placed-good n ps Places spanned s
-            (answer-0 n ps Places (st.thirteen ∙ none-13 at st.high m n) (st.fourteen ∙ none-14 at st.high m ps))
-            (λ t. st.span t ∙ none-span at st.high m s)
+        next-13 : rule13 n All ≡ rule13 n (From (s.at + 1))
+        next-13 = st.thirteen ∙ good-here s st.fetched n (sym is-bad ∙ ok)
 
-        module _ (l : at < k) (bad : Bool) (is-bad : bad ≡ eqb len 0 || (ltb start 8 || ltb n (start + len))) where
-          pub standing-bad : bad ≡ true → (r : Placed) → r ≡ placed (verdict 13 at) no_span → r ≡ Asked
-          standing-bad t r e =
-              e ∙ placed-bad n ps Places spanned (verdict 13 at)
-              (answer-13 n ps Places at (st.thirteen ∙ bad-here at l start len (st.start_is l) (st.len_is l) n (sym is-bad ∙ t))) refl
+        module _ (g : Gap) (f : Found s.place.start n ps g) (o : Bool) (is-o : o ≡ leaves g (body s.place)) where
+          pub clash-at : o ≡ true → rule14 ps All ≡ broken s.at
+          clash-at t =
+              st.fourteen ∙ clash-here s st.fetched ps (f.clash s.place.len (some_bytes s.place.len fine.0) (ltb-false _ _ inside.1) (sym is-o ∙ t))
 
-          module _ (ok : bad ≡ false) where
-            rest : (ltb start 8 ≡ false) × (ltb n (start + len) ≡ false)
-            rest = or-false (ltb start 8) _ (or-false (eqb len 0) _ (sym is-bad ∙ ok)).1
+          pub standing-clash : o ≡ true → (v : Verdict) → v ≡ or_else 13 (rule13 n (From (s.at + 1))) (verdict 14 s.at) → Err v ≡ placed_of spanned n ps All
+          standing-clash t v e = answer-14 s.at v (clash-at t) (e ∙ sym (ap (λ (x : Outcome). or_else 13 x (verdict 14 s.at)) next-13))
 
-            pub starts_low : 8 ≤ start
-            starts_low = ltb-false _ _ rest.0
+          module _ (t : o ≡ false) where
+            halves : (ltb s.place.start g.lo ≡ false) × (ltb g.hi (s.place.start + s.place.len) ≡ false)
+            halves = or-false (ltb s.place.start g.lo) _ (sym is-o ∙ t)
 
-            on-next : rule13 n Places ≡ rule13 n (From (at + 1))
-            on-next = st.thirteen ∙ good-here at l start len (st.start_is l) (st.len_is l) n (sym is-bad ∙ ok)
+            -- a search over the later ones
+            pub standing-next : (wider : Span) → (spanned ≡ true → wider ≡ widened span (body s.place)) → (r : Reach)
+                → Reached p spanned (s.at + 1) g wider r → Standing r.stop r.span
+            standing-next wider w r re =
+                record {
+                  fetched = alone r.stop re.stop;
+                  thirteen = next-13 ∙ re.thirteen n f.low f.high;
+                  fourteen = st.fourteen ∙ free-here s st.fetched ps (f.free s.place.len (sym is-o ∙ t)) ∙ re.fourteen ps (λ y. f.clean halves.0);
+                  wider = λ u. st.wider u ∙ span-here s st.fetched span ∙ ap (λ (x : Span). span_from x (From (s.at + 1))) (sym (w u)) ∙ re.wider u;
+                }
+              where
+                alone : (x : Option Stop) → IfSome x (λ y. (s.at + 1 ≤ y.at) × Fetched p y × (out g (body y.place) ≡ true)) → IfSome x (Fetched p)
+                alone None h = tt
+                alone (Some y) h = h.1
 
-            module _ (h : Gap) (f : Found start n ps h) where
-              pub clash-at : ltb start h.lo || ltb h.hi (start + len) ≡ true → rule14 ps Places ≡ broken at
-              clash-at t =
-                  let some-len = some_bytes len (or-false (eqb len 0) _ (sym is-bad ∙ ok)).0 in
-                  st.fourteen ∙ clash-here at l start len (st.start_is l) (st.len_is l) ps (f.clash len some-len (ltb-false _ _ rest.1) t)
+  -- ---- judge_within, from the first place and a search over the later ones
 
-              pub standing-clash : ltb start h.lo || ltb h.hi (start + len) ≡ true → (v : Verdict)
-                  → v ≡ or_else 13 (rule13 n (From (at + 1))) (verdict 14 at) → (r : Placed) → r ≡ placed v no_span → r ≡ Asked
-              standing-clash t v e r is-r =
-                  is-r ∙ placed-bad n ps Places spanned v
-                  (answer-14 n ps Places at v (clash-at t) (e ∙ sym (ap (λ (x : Outcome). or_else 13 x (verdict 14 at)) on-next)))
-                  (ap (λ (x : Verdict). eqb x.number 0) e ∙ after-refuses (rule13 n (From (at + 1))) at)
+  module _ (n : ℕ) (first : Reach) (o : Opened p first) where
+    pub within-none : first.stop ≡ None → Ok no_span ≡ within_of n All
+    unfolding rule13 first_bad span_of
+    within-none e =
+        let none = o.all_left ∙ ap (left p) e in
+        within-good n no_span (ap (rule13 n) none) (ap span_of none)
 
-              module _ (t : ltb start h.lo || ltb h.hi (start + len) ≡ false) where
-                inside : (ltb start h.lo ≡ false) × (ltb h.hi (start + len) ≡ false)
-                inside = or-false (ltb start h.lo) _ t
+    module _ (s : Stop) (e : first.stop ≡ Some s) (bad : Bool)
+        (is-bad : bad ≡ eqb s.place.len 0 || (ltb s.place.start 8 || ltb n (s.place.start + s.place.len))) where
+      opened : (s.at ≡ 0) × Fetched p s × (first.span ≡ lone (body s.place))
+      opened = rw e at o.stop
 
-                pub gap-room : h.lo ≤ h.hi
-                gap-room = omega (arith, ltb-false start h.lo inside.0, ltb-false h.hi (start + len) inside.1)
+      start : All ≡ From s.at
+      start = o.all_left ∙ ap (left p) e
 
-                free-next : rule14 ps Places ≡ rule14 ps (From (at + 1))
-                free-next = st.fourteen ∙ free-here at l start len (st.start_is l) (st.len_is l) ps (f.free len t)
+      pub within-first : bad ≡ true → Err (verdict 13 s.at) ≡ within_of n All
+      within-first t = within-bad n s.at (ap (rule13 n) start ∙ bad-here s opened.1 n (sym is-bad ∙ t))
 
-                module _ (wider : Span) (is-wider : wider ≡ cond spanned (widened s (part start len)) s) where
-                  wider-next : spanned ≡ true → span_of Places ≡ span_from wider (From (at + 1))
-                  wider-next u =
-                      st.span u ∙ span-here at l start len (st.start_is l) (st.len_is l) s
-                      ∙ ap (λ (x : Span). span_from x (From (at + 1))) (sym (is-wider ∙ rw u))
+      module _ (ok : bad ≡ false) (r : Reach) (re : Reached p true 1 (record { lo = 8; hi = n }) first.span r) where
+        one : s.at + 1 ≡ 1
+        one = omega (arith, opened.0)
 
-                  -- it is the last
-                  pub standing-last : k ≤ at + 1 → (r : Placed) → r ≡ placed (verdict 0 0) (cond spanned wider no_span) → r ≡ Asked
-                  standing-last m r e =
-                      e ∙ placed-good n ps Places spanned wider
-                      (answer-0 n ps Places (on-next ∙ none-13 (at + 1) (omega arith) m n) (free-next ∙ none-14 (at + 1) (omega arith) m ps))
-                      (λ u. wider-next u ∙ none-span (at + 1) (omega arith) m wider)
+        second : rule13 n All ≡ rule13 n (From 1)
+        second = ap (rule13 n) start ∙ good-here s opened.1 n (sym is-bad ∙ ok) ∙ ap (λ (i : ℕ). rule13 n (From i)) one
 
-                  -- a search over the later ones stopped at x
-                  pub standing-next : (x : Reach) → Reached big a offsets b bytecounts k h.lo h.hi (at + 1) spanned wider x
-                      → Standing x.stop.at x.stop.start x.stop.len x.span
-                  standing-next x re =
-                      let sk = re.skipped in
-                      record {
-                        high = sk.high;
-                        start_is = sk.start;
-                        len_is = sk.len;
-                        small = sk.small;
-                        thirteen = on-next ∙ sk.thirteen n f.low f.high;
-                        fourteen = free-next ∙ sk.fourteen ps (λ y. f.clean inside.0);
-                        span = λ u. wider-next u ∙ re.wider u;
-                      }
+        second-span : span_of All ≡ span_from first.span (From 1)
+        unfolding span_of
+        second-span = ap span_of (start ∙ here s opened.1) ∙ (λ i. span_from (sym opened.2 i) (From (one i)))
+
+        pub within-later : (b : Stop) → r.stop ≡ Some b → Err (verdict 13 b.at) ≡ within_of n All
+        within-later b k = within-bad n b.at (second ∙ file-bad n 1 true first.span r re b k)
+
+        pub within-all : r.stop ≡ None → Ok r.span ≡ within_of n All
+        unfolding span_from
+        within-all k =
+            within-good n r.span (second ∙ file-none n 1 true first.span r re k)
+            (second-span ∙ re.wider refl ∙ ap (λ (o : Option Stop). span_from r.span (left p o)) k)
+
+  -- ---- clashes_all: places that keep rule 13
+
+  -- the places before share no byte with the list; no span is asked for
+  abbrev pub Apart : ℕ → List Part → Option Stop → Type 0
+  Apart n ps next = Standing n ps false next no_span
+
+  module _ (n : ℕ) (ps : List Part) (good : rule13 n All ≡ kept) where
+    abbrev Clash : Bool
+    Clash = some (touches ps) All
+
+    -- no part has a byte in the span
+    pub span-free : (span : Span) → span ≡ span_of All → (met : Bool) → met ≡ not (all (clear span.low span.high) ps) → met ≡ false → false ≡ Clash
+    span-free span is-span met is-met t =
+        let c : all (clear span.low span.high) ps ≡ true = not-false _ (sym is-met ∙ t) in
+        sym (none-touched ps All (span-apart All ps (rw is-span at c)))
+
+    pub apart-end : (next : Option Stop) → Apart n ps next → next ≡ None → false ≡ Clash
+    unfolding rule14 first_bad
+    apart-end next st e = sym (none-touched ps All (st.fourteen ∙ ap (λ (o : Option Stop). rule14 ps (left p o)) e))
+
+    module _ (s : Stop) (st : Apart n ps (Some s)) where
+      apart-fine : eqb s.place.len 0 || (ltb s.place.start 8 || ltb n (s.place.start + s.place.len)) ≡ false
+      unfolding rule13 first_bad bad_piece
+      apart-fine = (kept-cond _ s.at _ (sym (ap (rule13 n) (here s st.fetched)) ∙ sym st.thirteen ∙ good)).0
+
+      pub apart-low : 8 ≤ s.place.start
+      apart-low = starts-low n ps false s no_span st _ refl apart-fine
+
+      module _ (g : Gap) (f : Found s.place.start n ps g) (o : Bool) (is-o : o ≡ leaves g (body s.place)) where
+        pub apart-clash : o ≡ true → true ≡ Clash
+        apart-clash t = sym (some-touched ps All s.at (clash-at n ps false s no_span st _ refl apart-fine g f o is-o t))
+
+        module _ (t : o ≡ false) where
+          pub apart-next : (r : Reach) → Reached p false (s.at + 1) g no_span r → Apart n ps r.stop
+          apart-next r re =
+              let x = standing-next n ps false s no_span st _ refl apart-fine g f o is-o t no_span (λ u. absurd (false≢true u)) r re in
+              record { fetched = x.fetched; thirteen = x.thirteen; fourteen = x.fourteen; wider = λ u. absurd (false≢true u) }

@@ -1,3 +1,4 @@
 -- The definitions that the contracts of this crate cite. Assumes nothing.
 pub mod Gaps
+pub mod Reading
 pub mod Spans

@@ -1,10 +1,10 @@
 -- The span of some places: from the lowest start up to the highest end. Assumes nothing.
-use Rattle.std.specs.Prelude.{ℕ, ◌+◌, min, max, cond, List, [], ◌∷◌, ◌==◌}
+use Rattle.std.specs.Prelude.{ℕ, ◌+◌, min, max, Bool, cond, List, [], ◌∷◌, Result}
+use Rattle.outcomes.specs.Ruled.{ruled}
 use Rattle.paper.specs.Outcome.{first, ◌▸◌}
-use Rattle.paper.specs.Pieces.{Piece, rule13}
+use Rattle.paper.specs.Pieces.{Piece, rule13, rule14}
 use Rattle.paper.specs.declared.Part.{Part}
 use Rattle.paper.specs.declared.Verdict.{Verdict}
-use Rattle.pieces.specs.declared.Placed.{Placed}
 use Rattle.pieces.specs.declared.Span.{Span}
 
 -- that of no place
@@ -27,11 +27,14 @@ unfoldable pub span_of : List Piece → Span
 span_of [] = no_span
 span_of (p ∷ ps) = span_from (lone p.place) ps
 
--- a verdict with a span
-abbrev pub placed : Verdict → Span → Placed
-placed v s = record { verdict = v; span = s }
-
 -- rule 13 alone, of places in a file of n bytes, and their span where it is kept
-unfoldable pub within_of : ℕ → List Piece → Placed
-within_of n ss =
-    placed (first (13 ▸ rule13 n ss ∷ [])) (cond ((first (13 ▸ rule13 n ss ∷ [])).number == 0) (span_of ss) no_span)
+unfoldable pub within_of : ℕ → List Piece → Result Span Verdict
+within_of n ss = ruled (first (13 ▸ rule13 n ss ∷ [])) (span_of ss)
+
+-- rules 13 and 14, of places in a file of n bytes, with that reading list
+unfoldable pub places_judged : ℕ → List Part → List Piece → Verdict
+places_judged n parts ss = first (13 ▸ rule13 n ss ∷ 14 ▸ rule14 parts ss ∷ [])
+
+-- and where both are kept the span of the places, if one is asked for
+unfoldable pub placed_of : Bool → ℕ → List Part → List Piece → Result Span Verdict
+placed_of spanned n parts ss = ruled (places_judged n parts ss) (cond spanned (span_of ss) no_span)

@@ -20,13 +20,12 @@ fn print_row<W: Write>(out: &mut W, row: Row) -> io::Result<()>
     )
 }
 
-// The line of K, and a line for each key row of an accepted file.
-fn print_rows<W: Write>(out: &mut W, keys: u32, rows: [Row; 256]) -> io::Result<()>
-    requires { keys ≤ 256 }
-    ensures { OnOk result (Appends (W.contents out.old) (W.contents out.new) (key_lines keys rows)) }
+// The line of K, and a line for each of the K rows of an accepted file.
+fn print_rows<W: Write>(out: &mut W, rows: &[Row]) -> io::Result<()>
+    ensures { OnOk result (Appends (W.contents out.old) (W.contents out.new) (key_lines (length rows.now) rows.now)) }
 {
-    writeln!(out, "keys {keys}")?;
-    for row in &rows[..keys as usize] {
+    writeln!(out, "keys {}", rows.len())?;
+    for row in rows {
         print_row(out, *row)?;
     }
     Ok(())
@@ -41,8 +40,8 @@ pub fn print<W: Write>(out: &mut W, file: &[u8]) -> io::Result<()>
     let verdict = counted.verdict;
     writeln!(out, "verdict {} place {}", verdict.number, verdict.place)?;
     if verdict.number == 0 {
-        let rows = lent.rows;
-        print_rows(out, counted.keys, rows)?;
+        let rows = &lent.rows[..counted.keys as usize];
+        print_rows(out, rows)?;
     }
     Ok(())
 }
@@ -56,7 +55,8 @@ pub fn print_named<W: Write>(out: &mut W, name: &[u8], file: &[u8]) -> io::Resul
     print(out, file)
 }
 
-// Reads until buf is full or the input ends, and returns how many bytes it put at the start of buf.
+// Reads until buf is full or the input ends, and returns how many bytes it put at the start of buf. An input that ends is no error here, as it is for
+// std's read_exact, and so the loop is written out.
 pub fn read_full<R: Read>(input: &mut R, buf: &mut [u8]) -> io::Result<usize>
     ensures fits { IfOk result (λ n. n ≤ length buf.new) }
     ensures bytes { IfOk result (λ n. Consumes (R.remaining input.old) (R.remaining input.new) (take n buf.new)) }
@@ -64,11 +64,10 @@ pub fn read_full<R: Read>(input: &mut R, buf: &mut [u8]) -> io::Result<usize>
 {
     let mut n = 0;
     while n < buf.len() {
-        let more = input.read(&mut buf[n..])?;
-        if more == 0 {
-            break;
+        match input.read(&mut buf[n..])? {
+            0 => break,
+            more => n += more,
         }
-        n += more;
     }
     Ok(n)
 }

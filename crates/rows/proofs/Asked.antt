@@ -14,7 +14,7 @@ use Rattle.paper.specs.Calls.{Starts, starts_of, row_of, row_at}
 use Rattle.paper.specs.declared.Outcome.TheVariants.{Kept as kept}
 use Rattle.paper.specs.declared.Row.{Row}
 use Rattle.paper.proofs.Laws.{run-length-in}
-use Rattle.paper.proofs.Called.{answer-good}
+use Rattle.outcomes.proofs.Ruled.{kept-ruled}
 use Rattle.tags.specs.Index
 use Rattle.tags.specs.Slots.{tag_at, line_at}
 use Rattle.keys.specs.Pass.{runs}
@@ -22,11 +22,11 @@ use Rattle.keys.specs.Rows.{RowAsked}
 use Rattle.keys.proofs.Rows.{row-asks}
 use Rattle.keys.proofs.Turn.{entry-any}
 use Rattle.image.specs.Imaging.{tag_part}
-use Rattle.judge.specs.Examining.{examined_in, not_examined, examined_of}
+use Rattle.judge.specs.Examining.{examined_in, examined_of}
 use Rattle.paper.proofs.Keeps.{rule15-kept, rule17-kept}
 use Rattle.image.proofs.Seen.{Stands}
 use Rattle.judge.proofs.Seen.{size, stands}
-use Rattle.rows.specs.Planning.{plan_by, plan_of, Asks}
+use Rattle.rows.specs.Planning.{plan_by, plan_told, plan_of, Asks}
 use Rattle.rows.specs.declared.Plan.{Plan}
 
 -- the key directory's part of the file, and where the three runs start, by a plan
@@ -88,7 +88,7 @@ module _ (f : List ℕ) (zero : (verdict_of f).number ≡ 0) where
   -- the plan of an accepted file
   plan-is : plan_of f ≡ plan_by (examined_in (view f))
   unfolding plan_of examined_of
-  plan-is = ap plan_by (answer-good f examined_in not_examined zero)
+  plan-is = ap plan_told (kept-ruled (verdict_of f) (examined_in (view f)) zero)
 
 -- all of it holds for a row that can be made
 pub asked : (f : List ℕ) (p : Plan) (i : ℕ) → Asks f p i → Asked f p i

@@ -6,21 +6,21 @@ use mathlib.Core.Path.{◌≡◌, refl, sym, ap, ◌∙◌, subst}
 use mathlib.Core.Bool.{Bool, true, false}
 use mathlib.Core.List.{List, ◌++◌}
 use lib.Dec.{ltb, eqb}
+use Rattle.std.specs.Prelude.{Ok, Err}
 use lib.ListN.{length, drop, replicate, length-replicate}
 use borrow.Author.Tests.{ne_eqb, lt-ltb, le-ltb, eqb-true, eqb-false, ltb-true, ltb-false}
 use Rattle.paper.specs.Bytes.{build}
 use Rattle.paper.specs.Outcome.{first, verdict}
 use Rattle.paper.specs.Keys.{key_count}
 use Rattle.paper.specs.Judge.{view, runs_of, verdict_of}
-use Rattle.paper.specs.Calls.{row_at, rows_in, counted, rule23, counted_in, rows_of, rows_over, left_rows, judged_in}
+use Rattle.paper.specs.Calls.{row_at, rows_in, counted, rule23, counted_in, rows_of, rows_over, left_rows}
 use Rattle.paper.specs.declared.Counted.{Counted}
-use Rattle.paper.specs.declared.Judged.{Judged}
 use Rattle.paper.specs.declared.Row.{Row}
 use Rattle.paper.specs.declared.Verdict.{Verdict}
-use Rattle.paper.proofs.Called.{answer-good, answer-bad, judged-verdict}
+use Rattle.paper.proofs.Called.{answer-good, answer-bad}
 use Rattle.judge.specs.Examining.{examined_in, examined_of}
 use Rattle.judge.specs.declared.Examined.{Examined}
-use Rattle.judge.proofs.Seen.{judged-is, accepted, found}
+use Rattle.judge.proofs.Seen.{accepted, found, refuses}
 use Rattle.rows.specs.Planning.{plan_of, Fits, no_row}
 
 abbrev told : Verdict → ℕ → Counted
@@ -61,34 +61,25 @@ module _ (f : List ℕ) where
 
   -- ---- what was examined
 
-  module _ (e : Examined) (is : e ≡ examined_of f) where
-    verdict-is : e.judged.verdict ≡ verdict_of f
-    verdict-is = ap (λ (x : Examined). x.judged.verdict) is ∙ ap (λ (j : Judged). j.verdict) (judged-is f) ∙ judged-verdict f
+  pub refused : (v : Verdict) → Err v ≡ examined_of f → (m : ℕ) → told v 0 ≡ rows_of f m
+  refused v is m =
+      let (v-is, bad) = refuses f v is in
+      ap (λ (x : Verdict). told x 0) v-is ∙ sym (rows-bad bad m)
 
-    pub refused : (e.judged.verdict.number ≡ 0 → ⊥) → (m : ℕ) → told e.judged.verdict 0 ≡ rows_of f m
-    refused bad m =
-        ap (λ (v : Verdict). told v 0) verdict-is
-        ∙ sym (rows-bad (λ z. bad (ap (λ (v : Verdict). v.number) verdict-is ∙ z)) m)
+  module _ (e : Examined) (is : Ok e ≡ examined_of f) where
+    keys-are : e.surveyed.keys ≡ K
+    unfolding examined_in
+    keys-are = ap (λ (x : Examined). x.surveyed.keys) (found f e is)
 
-    module _ (zero : e.judged.verdict.number ≡ 0) where
-      keys-are : e.judged.keys ≡ K
-      unfolding examined_in judged_in
-      keys-are = ap (λ (x : Examined). x.judged.keys) (found f e is zero)
+    pub too_few : (m : ℕ) → m < e.surveyed.keys → told (verdict 23 e.surveyed.keys) 0 ≡ rows_of f m
+    too_few m h =
+        ap (λ (k : ℕ). told (verdict 23 k) 0) keys-are
+        ∙ sym (rows_few (accepted f e is) m (subst (λ (k : ℕ). m < k) keys-are h))
 
-      kept-is : e.judged.verdict ≡ verdict 0 0
-      unfolding examined_in judged_in
-      kept-is = ap (λ (x : Examined). x.judged.verdict) (found f e is zero)
-
-      pub too_few : (m : ℕ) → m < e.judged.keys → told (verdict 23 e.judged.keys) 0 ≡ rows_of f m
-      too_few m h =
-          ap (λ (k : ℕ). told (verdict 23 k) 0) keys-are
-          ∙ sym (rows_few (accepted f e is zero) m (subst (λ (k : ℕ). m < k) keys-are h))
-
-      pub enough : (m : ℕ) → e.judged.keys ≤ m → told e.judged.verdict e.judged.keys ≡ rows_of f m
-      enough m h =
-          ap (λ (v : Verdict). told v e.judged.keys) kept-is
-          ∙ ap (told (verdict 0 0)) keys-are
-          ∙ sym (rows-good (accepted f e is zero) m (subst (λ (k : ℕ). k ≤ m) keys-are h))
+    pub enough : (m : ℕ) → e.surveyed.keys ≤ m → told (verdict 0 0) e.surveyed.keys ≡ rows_of f m
+    enough m h =
+        ap (told (verdict 0 0)) keys-are
+        ∙ sym (rows-good (accepted f e is) m (subst (λ (k : ℕ). k ≤ m) keys-are h))
 
   -- ---- the three cases as one
 

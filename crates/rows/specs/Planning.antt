@@ -1,10 +1,11 @@
 -- What the rows of a file are made of, what is asked to make them, and 256 rows that are lent. Assumes nothing.
-use Rattle.std.specs.Prelude.{ℕ, ◌<◌, ◌≡◌, List, ◌++◌, drop, replicate}
+use Rattle.std.specs.Prelude.{ℕ, ◌<◌, ◌≡◌, false, Result, Ok, Err, List, ◌++◌, drop, replicate}
 use Rattle.paper.specs.Bytes.{build}
 use Rattle.paper.specs.Keys.{key_count}
 use Rattle.paper.specs.Judge.{view, runs_of, verdict_of}
 use Rattle.paper.specs.Calls.{row_at, rows_of, left_rows}
 use Rattle.paper.specs.declared.Row.{Row}
+use Rattle.paper.specs.declared.Verdict.{Verdict}
 use Rattle.judge.specs.Examining.{examined_of}
 use Rattle.judge.specs.declared.Examined.{Examined}
 use Rattle.rows.specs.declared.Plan.{Plan}
@@ -22,8 +23,12 @@ plan_by e =
     }
 
 -- all of them are 0 where a rule of the file refuses
+abbrev pub plan_told : Result Examined Verdict → Plan
+plan_told (Ok e) = plan_by e
+plan_told (Err v) = record { big = false; start = 0; len = 0; doubles = 0; characters = 0 }
+
 unfoldable pub plan_of : List ℕ → Plan
-plan_of f = plan_by (examined_of f)
+plan_of f = plan_told (examined_of f)
 
 -- m rows lent
 abbrev pub planned_of : List ℕ → ℕ → Planned

@@ -4,7 +4,6 @@
 ghost use Rattle.std.specs.Prelude.{◌≡◌, ◌≤◌, length};
 ghost use Rattle.paper.specs.Judge.{view};
 ghost use Rattle.paper.specs.Calls.{row_at, rows_of, left_rows};
-ghost use Rattle.keys.specs.Table.{key_numbers, key_kinds};
 ghost use Rattle.rows.specs.Planning.{planned_of, Asks, Fits, written, lent_of};
 
 use keys::Starts;
@@ -27,18 +26,32 @@ pub struct Planned {
     pub plan: Plan,
 }
 
-// Verdict, K and 256 rows.
+// Verdict, K and 256 rows, which are as they were lent where the verdict refuses: so this is no Result.
 #[derive(Clone, Copy)]
 pub struct Lent {
     pub counted: Counted,
     pub rows: [Row; 256],
 }
 
-// Rules 1 to 23 of a file with so many rows lent. K is 0 where a rule is broken.
+// Rules 1 to 23 of a file with so many rows lent. K is 0 where a rule is broken; where it is rule 23 the plan is told too, so this is no Result.
 pub fn count(file: &[u8], lent: usize) -> Planned
     ensures { result ≡ planned_of file.now lent }
 {
-    let e = judge::examine(file);
+    let e = match judge::examine(file) {
+        Ok(e) => e,
+        Err(verdict) => {
+            return Planned {
+                counted: Counted { verdict, keys: 0 },
+                plan: Plan {
+                    big: false,
+                    start: 0,
+                    len: 0,
+                    doubles: 0,
+                    characters: 0,
+                },
+            };
+        }
+    };
     let plan = Plan {
         big: e.big,
         start: e.directory.start,
@@ -46,14 +59,7 @@ pub fn count(file: &[u8], lent: usize) -> Planned
         doubles: e.doubles.start,
         characters: e.characters.start,
     };
-    let verdict = e.judged.verdict;
-    let k = e.judged.keys;
-    if verdict.number != 0 {
-        return Planned {
-            counted: Counted { verdict, keys: 0 },
-            plan,
-        };
-    }
+    let k = e.surveyed.keys;
     if lent < k as usize {
         return Planned {
             counted: Counted {
@@ -66,15 +72,19 @@ pub fn count(file: &[u8], lent: usize) -> Planned
             plan,
         };
     }
+    let verdict = Verdict {
+        number: 0,
+        place: 0,
+    };
     Planned {
         counted: Counted { verdict, keys: k },
         plan,
     }
 }
 
-// The row of key entry i, counted from 0, of an accepted file, with the table of the kinds as it is set up.
-fn row_of(file: &[u8], keys: &[u16; 45], kinds: &[u8; 45], plan: Plan, i: usize) -> Row
-    requires { (keys.now ≡ key_numbers) × (kinds.now ≡ key_kinds) × Asks file.now plan i }
+// The row of key entry i, counted from 0, of an accepted file.
+fn row_of(file: &[u8], plan: Plan, i: usize) -> Row
+    requires { Asks file.now plan i }
     ensures { result ≡ row_at (view file.now) i }
 {
     let directory = layout::value(file, plan.start, plan.len);
@@ -83,29 +93,17 @@ fn row_of(file: &[u8], keys: &[u16; 45], kinds: &[u8; 45], plan: Plan, i: usize)
         doubles: plan.doubles,
         characters: plan.characters,
     };
-    keys::row(keys, kinds, plan.big, directory, starts, i)
+    keys::row(plan.big, directory, starts, i)
 }
 
 // The first k rows are written, the others stay as they are.
-fn fill(rows: &mut [Row], file: &[u8], keys: &[u16; 45], kinds: &[u8; 45], plan: Plan, k: usize)
-    requires { (k ≤ length rows.old) × (keys.now ≡ key_numbers) × (kinds.now ≡ key_kinds) × Fits file.now plan k }
-    ensures { rows.new ≡ written file.now k rows.old }
-{
-    let mut i = 0;
-    while i < k {
-        rows[i] = row_of(file, keys, kinds, plan, i);
-        i += 1;
-    }
-}
-
-// The same, and the table of the kinds is set up for it, once for all rows.
-fn write(rows: &mut [Row], file: &[u8], plan: Plan, k: usize)
+fn fill(rows: &mut [Row], file: &[u8], plan: Plan, k: usize)
     requires { (k ≤ length rows.old) × Fits file.now plan k }
     ensures { rows.new ≡ written file.now k rows.old }
 {
-    let keys = keys::table_keys();
-    let kinds = keys::table_kinds();
-    fill(rows, file, &keys, &kinds, plan, k);
+    for (i, row) in rows[..k].iter_mut().enumerate() {
+        *row = row_of(file, plan, i);
+    }
 }
 
 // The key rows of a file, written to the rows that are lent: verdict and K. Nothing is written on a refusal.
@@ -115,7 +113,7 @@ pub fn key_rows(file: &[u8], rows: &mut [Row]) -> Counted
 {
     let p = count(file, rows.len());
     let k = p.counted.keys as usize;
-    write(rows, file, p.plan, k);
+    fill(rows, file, p.plan, k);
     p.counted
 }
 

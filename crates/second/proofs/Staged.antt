@@ -1,5 +1,6 @@
--- A mask stage by stage: where one refuses, its number is that of the mask's verdict; where none does, the columns are ready for the rules of its table, and
--- then for those of its picture. Assumes nothing.
+-- A mask stage by stage: where one refuses, its number is that of the mask's verdict; where none does, the entries that were gathered are ready for the rules of its table,
+-- and then for those of its picture. Assumes nothing.
+use Rattle.std.specs.Prelude.{Ok, Err}
 use Prim.Native.Nat.{ℕ, ◌*◌, ◌+◌, ◌≤◌, ◌<◌}
 use mathlib.Core.Path.{◌≡◌, refl, sym, ap, ◌∙◌, subst}
 use mathlib.Core.Bool.{Bool}
@@ -11,41 +12,42 @@ use borrow.Author.Tests.{ne_eqb}
 use Rattle.paper.specs.Bytes.{run}
 use Rattle.paper.specs.Tests.{all}
 use Rattle.paper.specs.Outcome.{first, ◌▷◌, verdict}
-use Rattle.paper.specs.Layout.{dir_len, entries, next_offset, rule6, rule8}
+use Rattle.paper.specs.Layout.{dir_len, entries, next_offset, rule8}
 use Rattle.paper.specs.Tag
 use Rattle.paper.specs.Tags.{mask_table, value_of}
 use Rattle.paper.specs.Judge.{Head, View, head_in, next_in, count_in, entries_in, dir_run, view, view_at, entry_rules, next_rules, table_rules}
 use Rattle.paper.specs.Judge.{offset_stage, count_stage, entry_stage, directory_stage, next_stage, file_stage, image_stage, survey_stage}
 use Rattle.paper.specs.Judge.{mask_head, mask_lines, mask_view, mask_picture_rules, mask_verdict, both_parts, both_pieces}
-use Rattle.paper.specs.declared.Outcome.TheVariants.{Kept as kept}
+use Rattle.paper.specs.declared.Entry.{Entry}
 use Rattle.paper.specs.declared.Verdict.{Verdict}
 use Rattle.paper.proofs.Laws.{run-length-in}
 use Rattle.paper.proofs.First.{kept-first, first-append, chain-zero, chain-stop, chain-turn, chain-both}
-use Rattle.layout.specs.Columns.{Columns}
+use Rattle.layout.specs.Columns.{firsts}
 use Rattle.layout.specs.Opening.{opened_of, scanned_of}
-use Rattle.layout.specs.declared.Opened.TheVariants.{Refused}
+use Rattle.layout.specs.declared.Directory.{Directory}
 use Rattle.layout.specs.declared.Scanned.{Scanned}
-use Rattle.layout.proofs.Opening.{Laying, laid, refused}
+use Rattle.layout.proofs.Opening.{Laying, laid, laid-place}
 use Rattle.lines.specs.Lined.{line_tags}
 use Rattle.lines.specs.Ready.{entries_at, held_at, Ready}
 use Rattle.tags.specs.Tagging.{view_of}
-use Rattle.pieces.specs.declared.Span.{Span}
 use Rattle.image.proofs.Seen.{file-size, known, held-is}
-use Rattle.mask.specs.Masking.{tagged_by, tagged_of}
-use Rattle.mask.specs.declared.Tagged.{Tagged}
-use Rattle.second.specs.Before.{Before, Second, Columned, Third, crossed}
+use Rattle.mask.specs.Masking.{numbered, tagged_of}
+use Rattle.mask.proofs.Numbered.{refused, first-refuses, first-kept}
+use Rattle.outcomes.proofs.Ruled.{broken-ruled}
+use Rattle.second.specs.Before.{Before, Second, Found, crossed}
+use Rattle.second.specs.declared.Known.{Known}
 
-module _ {f : List ℕ} {big : Bool} {at next w l : ℕ} {span : Span} (b : Before f big at next w l span) where
+module _ {f : List ℕ} {i : Known} (b : Before f i) where
   abbrev Place : Head
-  Place = record { size = length f; big = big; at = next }
+  Place = record { size = length f; big = i.big; at = i.next }
 
-  head-is : mask_head f ≡ record { size = length f; big = big; at = next }
+  head-is : mask_head f ≡ record { size = length f; big = i.big; at = i.next }
   unfolding mask_head
-  head-is = λ i. record { size = length f; big = sym b.big_is i; at = sym b.next_is i }
+  head-is = λ j. record { size = length f; big = sym b.big_is j; at = sym b.next_is j }
 
-  lines_are : mask_lines f ≡ mask_table w l
+  lines_are : mask_lines f ≡ mask_table i.width i.length
   unfolding mask_lines
-  lines_are = λ i. mask_table (sym b.width_is i) (sym b.length_is i)
+  lines_are = λ j. mask_table (sym b.width_is j) (sym b.length_is j)
 
   pub image-zero : (image_stage f).number ≡ 0
   unfolding file_stage
@@ -55,62 +57,66 @@ module _ {f : List ℕ} {big : Bool} {at next w l : ℕ} {span : Span} (b : Befo
   size = file-size f image-zero
 
   -- the mask's rules, where it stands
-  staged : mask_verdict f ≡ directory_stage f (record { size = length f; big = big; at = next }) ▷ (next_stage f (record { size = length f; big = big; at = next }) ▷ first (mask_picture_rules f))
+  staged : {h : Head} → mask_head f ≡ h → mask_verdict f ≡ directory_stage f h ▷ (next_stage f h ▷ first (mask_picture_rules f))
   unfolding mask_verdict
-  staged = ap (λ (h : Head). directory_stage f h ▷ (next_stage f h ▷ first (mask_picture_rules f))) head-is
+  staged e = ap (λ (h : Head). directory_stage f h ▷ (next_stage f h ▷ first (mask_picture_rules f))) e
 
   -- rules 4 and 5 refuse
-  pub open-bad : {k p : ℕ} → opened_of f (record { size = length f; big = big; at = next }) ≡ Refused k p → k ≡ (mask_verdict f).number
-  unfolding directory_stage
-  open-bad {k} {p} e =
-      let r = refused f Place k p e in
+  pub open-bad : (e : Verdict) → Err e ≡ opened_of f (record { size = length f; big = i.big; at = i.next }) → Err e.number ≡ numbered (mask_verdict f) (tt {0})
+  unfolding directory_stage opened_of
+  open-bad e h =
       let x = offset_stage Place ▷ count_stage f Place in
-      let n : x.number ≡ 0 → ⊥ = λ z. r.some (ap (λ (v : Verdict). v.number) (sym r.whole) ∙ z) in
-      sym
-      (ap (λ (v : Verdict). v.number)
-      (staged
+      let r = broken-ruled x _ e h in
+      let whole : mask_verdict f ≡ x =
+      staged head-is
       ∙ ap (λ (v : Verdict). v ▷ (next_stage f Place ▷ first (mask_picture_rules f))) (sym (chain-turn (offset_stage Place) (count_stage f Place) (entry_stage f Place)))
       ∙ chain-turn x (entry_stage f Place) _
-      ∙ chain-stop x _ n
-      ∙ r.whole))
+      ∙ chain-stop x _ r.0 in
+      ap (λ (v : Verdict). Err v.number) r.1 ∙ refused x (tt {0}) r.0 ∙ ap (λ (v : Verdict). numbered v (tt {0})) (sym whole)
 
-module _ {f : List ℕ} {big : Bool} {at next w l : ℕ} {span : Span} {c : ℕ} (o : Second f big at next w l span c) where
+module _ {f : List ℕ} {i : Known} {d : Directory} (o : Second f i d) where
   abbrev Here : Head
-  Here = record { size = length f; big = big; at = next }
+  Here = record { size = length f; big = d.big; at = d.at }
 
   abbrev Bytes : List ℕ
-  Bytes = run f next (dir_len c)
+  Bytes = run f d.at (dir_len d.count)
 
-  lay : Laying f (record { size = length f; big = big; at = next }) c
-  lay = laid f Here c o.laid
+  place-is : (d.big ≡ i.big) × (d.at ≡ i.next)
+  place-is = laid-place f _ d o.laid
+
+  here-is : mask_head f ≡ record { size = length f; big = d.big; at = d.at }
+  here-is = head-is o.before ∙ (λ j. record { size = length f; big = sym place-is.0 j; at = sym place-is.1 j })
+
+  lay : Laying f (record { size = length f; big = d.big; at = d.at }) d.count
+  lay = subst (λ (h : Head). Laying f h d.count) (sym (head-is o.before) ∙ here-is) (laid f _ d o.laid)
 
   -- what the passes over the directory ask
-  pub part-asked : next + (2 + 12 * c + 4) ≤ length f
-  part-asked = let w = lay.whole in omega arith
+  pub part_asked : d.at + (2 + 12 * d.count + 4) ≤ length f
+  part_asked = let w = lay.whole in omega arith
 
-  pub entries-asked : {dir : List ℕ} → dir ≡ run f next (2 + 12 * c + 4)
-      → (dir_len c ≤ length dir) × (0 < c) × (c ≤ 1024) × (next + dir_len c ≤ length f) × (length f ≤ 4294967295)
+  pub entries-asked : {dir : List ℕ} → dir ≡ run f d.at (2 + 12 * d.count + 4)
+      → (dir_len d.count ≤ length dir) × (0 < d.count) × (d.count ≤ 1024) × (d.at + dir_len d.count ≤ length f) × (length f ≤ 4294967295)
   entries-asked e =
-      let m = ap length e ∙ run-length-in f next (dir_len c) lay.whole in
+      let m = ap length e ∙ run-length-in f d.at (dir_len d.count) lay.whole in
       (omega arith, lay.some, lay.few, lay.whole, size o.before)
 
-  pub next_low : next < 4294967296
-  next_low = let w = lay.whole in let s = size o.before in omega arith
+  pub at_low : d.at < 4294967296
+  at_low = let w = lay.whole in let s = size o.before in omega arith
 
-  entries-are : entry_stage f Here ≡ first (entry_rules Here (entries big next c Bytes))
+  entries-are : entry_stage f Here ≡ first (entry_rules Here (entries d.big d.at d.count Bytes))
   unfolding entry_stage entries_in dir_run
-  entries-are = ap (λ (k : ℕ). first (entry_rules Here (entries big next k (run f next (dir_len k))))) (sym lay.count)
+  entries-are = ap (λ (k : ℕ). first (entry_rules Here (entries d.big d.at k (run f d.at (dir_len k))))) (sym lay.count)
 
-  next_is : next_in f Here ≡ next_offset big c Bytes
+  next_is : next_in f Here ≡ next_offset d.big d.count Bytes
   unfolding next_in dir_run
-  next_is = ap (λ (k : ℕ). next_offset big k (run f next (dir_len k))) (sym lay.count)
+  next_is = ap (λ (k : ℕ). next_offset d.big k (run f d.at (dir_len k))) (sym lay.count)
 
   -- what the pass over it answered
-  module _ {dir : List ℕ} (is : dir ≡ run f next (2 + 12 * c + 4)) {s : Scanned} (so : s ≡ scanned_of (record { size = length f; big = big; at = next }) c dir) where
-    so_far : s ≡ scanned_of (record { size = length f; big = big; at = next }) c (run f next (dir_len c))
-    so_far = so ∙ ap (scanned_of Here c) is
+  module _ {dir : List ℕ} (is : dir ≡ run f d.at (2 + 12 * d.count + 4)) {s : Scanned} (so : s ≡ scanned_of (record { size = length f; big = d.big; at = d.at }) d.count dir) where
+    so_far : s ≡ scanned_of (record { size = length f; big = d.big; at = d.at }) d.count (run f d.at (dir_len d.count))
+    so_far = so ∙ ap (scanned_of Here d.count) is
 
-    verdict-is : s.verdict ≡ first (entry_rules Here (entries big next c Bytes))
+    verdict-is : s.verdict ≡ first (entry_rules Here (entries d.big d.at d.count Bytes))
     unfolding scanned_of
     verdict-is = ap (λ (x : Scanned). x.verdict) so_far
 
@@ -121,52 +127,47 @@ module _ {f : List ℕ} {big : Bool} {at next w l : ℕ} {span : Span} {c : ℕ}
     after-scan : mask_verdict f ≡ s.verdict ▷ (next_stage f Here ▷ first (mask_picture_rules f))
     unfolding directory_stage
     after-scan =
-        staged o.before
+        staged o.before here-is
         ∙ ap (λ (x : Verdict). x ▷ (next_stage f Here ▷ first (mask_picture_rules f)))
         (chain-zero (offset_stage Here) _ lay.offset_zero ∙ chain-zero (count_stage f Here) _ lay.count_zero ∙ entries-are ∙ sym verdict-is)
 
     -- rules 6 and 7 refuse
-    pub scan-bad : (s.verdict.number ≡ 0 → ⊥) → s.verdict.number ≡ (mask_verdict f).number
-    scan-bad n = sym (ap (λ (v : Verdict). v.number) (after-scan ∙ chain-stop s.verdict _ n))
+    pub scan-bad : (s.verdict.number ≡ 0 → ⊥) → Err s.verdict.number ≡ numbered (mask_verdict f) (tt {0})
+    scan-bad n = refused s.verdict (tt {0}) n ∙ ap (λ (v : Verdict). numbered v (tt {0})) (sym (after-scan ∙ chain-stop s.verdict _ n))
 
     module _ (z : s.verdict.number ≡ 0) where
       after-seven : mask_verdict f ≡ next_stage f Here ▷ first (mask_picture_rules f)
       after-seven = after-scan ∙ chain-zero s.verdict _ z
 
       -- rule 8
-      pub next-bad : (s.next ≡ 0 → ⊥) → 8 ≡ (mask_verdict f).number
-      unfolding next_stage next_rules rule8 first
+      pub next-bad : (s.next ≡ 0 → ⊥) → Err 8 ≡ numbered (mask_verdict f) (tt {0})
+      unfolding next_stage next_rules rule8 first numbered
       next-bad n =
           let e : eqb (next_in f Here) 0 ≡ eqb 1 0 = ap (λ (k : ℕ). eqb k 0) (sym next-found) ∙ ne_eqb s.next 0 n in
           let v : mask_verdict f ≡ verdict 8 0 = after-seven ∙ rw e in
-          sym (ap (λ (x : Verdict). x.number) v)
+          ap (λ (x : Verdict). numbered x (tt {0})) (sym v)
 
-      rules-zero : (first (entry_rules Here (entries big next c Bytes))).number ≡ 0
+      rules-zero : (first (entry_rules Here (entries d.big d.at d.count Bytes))).number ≡ 0
       rules-zero = ap (λ (v : Verdict). v.number) (sym verdict-is) ∙ z
 
-      pub six-kept : rule6 (entries_at f big next c) ≡ kept
+      pub ready_with : {ts : List ℕ} {found : List Entry} → ts ≡ line_tags (mask_table i.width i.length) → found ≡ firsts ts (entries d.big d.at d.count dir)
+          → Ready (mask_table i.width i.length) f d.big d.at d.count found
       unfolding entries_at entry_rules all
-      six-kept = kept-first (entry_rules Here (entries big next c Bytes)) refl rules-zero 0
-
-      pub ready_with : {ts typs counts starts lens : List ℕ} → ts ≡ line_tags (mask_table w l) → Columns ts (entries big next c dir) typs counts starts lens
-          → Ready (mask_table w l) f big next c typs counts starts lens
-      unfolding entries_at entry_rules all
-      ready_with {ts} {typs} {counts} {starts} {lens} e k =
+      ready_with e k =
           record {
             size = size o.before;
             low = lay.low;
             some = lay.some;
             few = lay.few;
             whole = lay.whole;
-            columns = subst (λ (us : List ℕ). Columns us (entries big next c (run f next (dir_len c))) typs counts starts lens) e
-                (subst (λ (d : List ℕ). Columns ts (entries big next c d) typs counts starts lens) is k);
-            seven = kept-first (entry_rules Here (entries big next c Bytes)) refl rules-zero 1;
+            found_are = k ∙ (λ j. firsts (e j) (entries d.big d.at d.count (is j)));
+            seven = kept-first (entry_rules Here (entries d.big d.at d.count Bytes)) refl rules-zero 1;
           }
 
       module _ (none : s.next ≡ 0) where
-        view_is : mask_view f ≡ view_of (mask_table w l) f big next c
+        view_is : mask_view f ≡ view_of (mask_table i.width i.length) f d.big d.at d.count
         unfolding mask_view view_at view_of held_at entries_at entries_in dir_run
-        view_is = (λ i. view_at (lines_are o.before i) f (head-is o.before i)) ∙ rw (sym lay.count)
+        view_is = (λ j. view_at (lines_are o.before j) f (here-is j)) ∙ rw (sym lay.count)
 
         after-eight : mask_verdict f ≡ first (mask_picture_rules f)
         unfolding next_stage next_rules rule8 first
@@ -178,33 +179,37 @@ module _ {f : List ℕ} {big : Bool} {at next w l : ℕ} {span : Span} {c : ℕ}
         unfolding mask_picture_rules table_rules crossed both_parts both_pieces all
         parted = after-eight ∙ first-append (table_rules (mask_view f)) _ refl
 
-        pub columned : {typs counts starts lens : List ℕ} → Ready (mask_table w l) f big next c typs counts starts lens
-            → Columned f big at next w l span c typs counts starts lens
-        columned r = record { second = o; ready = r; six = six-kept; view_is = view_is; left = parted }
+        pub gathered : {ts : List ℕ} {found : List Entry} → ts ≡ line_tags (mask_table i.width i.length) → found ≡ firsts ts (entries d.big d.at d.count dir)
+            → Found f i d found
+        unfolding entries_at entry_rules all
+        gathered e k =
+            record {
+              second = o;
+              ready = ready_with e k;
+              six = kept-first (entry_rules Here (entries d.big d.at d.count Bytes)) refl rules-zero 0;
+              view_is = view_is;
+              left = parted;
+            }
 
 -- rules 27 and 9 to 12
-module _ {f : List ℕ} {big : Bool} {at next w l : ℕ} {span : Span} {c : ℕ} {typs counts starts lens : List ℕ}
-    (p : Columned f big at next w l span c typs counts starts lens) {t : Tagged} (to : t ≡ tagged_of (view_of (mask_table w l) f big next c)) where
-  number_is : (first (table_rules (mask_view f))).number ≡ t.number
-  unfolding tagged_of tagged_by
-  number_is = ap (λ (v : View). (first (table_rules v)).number) p.view_is ∙ sym (ap (λ (x : Tagged). x.number) to)
+module _ {f : List ℕ} {i : Known} {d : Directory} {found : List Entry} (p : Found f i d found) where
+  parted-seen : mask_verdict f ≡ first (table_rules (view_of (mask_table i.width i.length) f d.big d.at d.count)) ▷ crossed f
+  parted-seen = p.left ∙ ap (λ (v : View). first (table_rules v) ▷ crossed f) p.view_is
 
-  pub tags-bad : (t.number ≡ 0 → ⊥) → t.number ≡ (mask_verdict f).number
-  tags-bad n =
-      sym (ap (λ (v : Verdict). v.number) (p.left ∙ chain-stop (first (table_rules (mask_view f))) _ (λ y. n (sym number_is ∙ y))) ∙ number_is)
+  pub tags-bad : (k : ℕ) → Err k ≡ tagged_of (view_of (mask_table i.width i.length) f d.big d.at d.count) → Err k ≡ numbered (mask_verdict f) (tt {0})
+  unfolding tagged_of
+  tags-bad k h = first-refuses _ (crossed f) _ (tt {0}) k h ∙ ap (λ (v : Verdict). numbered v (tt {0})) (sym parted-seen)
 
-  pub tags-good : t.number ≡ 0 → (crossed f).number ≡ (mask_verdict f).number
-  tags-good y = sym (ap (λ (v : Verdict). v.number) (p.left ∙ chain-zero (first (table_rules (mask_view f))) _ (number_is ∙ y)))
-
-  pub third : t.number ≡ 0 → Third f big at next w l span c t.tiled typs counts starts lens
-  third y = record { columned = p; twelve = ap (λ (x : Tagged). x.number) (sym to) ∙ y; tiled_is = ap (λ (x : Tagged). x.tiled) to }
+  pub tags-good : {t : Bool} → Ok t ≡ tagged_of (view_of (mask_table i.width i.length) f d.big d.at d.count) → numbered (crossed f) (tt {0}) ≡ numbered (mask_verdict f) (tt {0})
+  unfolding tagged_of
+  tags-good {t} h = sym (ap (λ (v : Verdict). numbered v (tt {0})) parted-seen ∙ first-kept _ (crossed f) _ t (tt {0}) h)
 
 -- what the table asks of the image's size
-module _ {f : List ℕ} {big : Bool} {at next w l : ℕ} {span : Span} (b : Before f big at next w l span) where
-  pub sides-low : (w ≤ 1000000) × (l ≤ 1000000)
+module _ {f : List ℕ} {i : Known} (b : Before f i) where
+  pub sides-low : (i.width ≤ 1000000) × (i.length ≤ 1000000)
   sides-low =
       let k = known f (image-zero b) in
       let h = held-is f (image-zero b) in
-      let x : w ≡ value_of (head_in f).big Tag.width (held_at _ f (head_in f).big (head_in f).at (count_in f (head_in f))) = b.width_is ∙ ap (value_of (head_in f).big Tag.width) h in
-      let y : l ≡ value_of (head_in f).big Tag.length (held_at _ f (head_in f).big (head_in f).at (count_in f (head_in f))) = b.length_is ∙ ap (value_of (head_in f).big Tag.length) h in
+      let x : i.width ≡ value_of (head_in f).big Tag.width (held_at _ f (head_in f).big (head_in f).at (count_in f (head_in f))) = b.width_is ∙ ap (value_of (head_in f).big Tag.width) h in
+      let y : i.length ≡ value_of (head_in f).big Tag.length (held_at _ f (head_in f).big (head_in f).at (count_in f (head_in f))) = b.length_is ∙ ap (value_of (head_in f).big Tag.length) h in
       (omega (arith, x, k.width_high), omega (arith, y, k.length_high))

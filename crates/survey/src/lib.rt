@@ -2,39 +2,23 @@
 #![tactic(auto)]
 
 ghost use Rattle.std.specs.Prelude.{◌≡◌};
-ghost use Rattle.paper.specs.Calls.{not_judged};
 ghost use Rattle.keys.specs.Pass.{runs};
 ghost use Rattle.ground.specs.Answer.{Sized};
 ghost use Rattle.survey.specs.Surveying.{surveyed_of};
 
-use paper::{Corners, Georeference, Judged, Verdict};
+use paper::{Corners, Georeference, Verdict};
 
-// What is answered where a rule is broken.
-pub fn not_judged(verdict: Verdict) -> Judged
-    ensures { result ≡ not_judged verdict }
-{
-    Judged {
-        verdict,
-        keys: 0,
-        minor: 0,
-        georeference: Georeference::Scaled {
-            ti: 0.0,
-            tj: 0.0,
-            tx: 0.0,
-            ty: 0.0,
-            sx: 0.0,
-            sy: 0.0,
-        },
-        corners: Corners {
-            x0: 0.0,
-            y0: 0.0,
-            x1: 0.0,
-            y1: 0.0,
-        },
-    }
+// What is found where these rules are kept: the number of keys K, the minor revision of their header, and the place on the ground.
+#[derive(Clone, Copy)]
+pub struct Surveyed {
+    pub keys: u32,
+    pub minor: u32,
+    pub georeference: Georeference,
+    pub corners: Corners,
 }
 
-// Rules 15 to 22, over runs, their byte order and the size of the picture; the run of an absent tag is empty.
+// Rules 15 to 22, over runs, their byte order and the size of the picture; the run of an absent tag is empty. Each run is another tag's: a struct of them
+// would be taken apart at once.
 pub fn judge_survey(
     big: bool,
     directory: &[u8],
@@ -45,28 +29,18 @@ pub fn judge_survey(
     matrix: &[u8],
     width: u32,
     length: u32,
-) -> Judged
+) -> Result<Surveyed, Verdict>
     requires { Sized scale.now tiepoint.now matrix.now }
     ensures { result ≡ surveyed_of (runs big directory.now doubles.now characters.now) scale.now tiepoint.now matrix.now width length }
 {
-    let k = keys::judge_keys(big, directory, doubles, characters);
-    if k.verdict.number != 0 {
-        return not_judged(k.verdict);
-    }
-    let g = ground::judge_ground(big, scale, tiepoint, matrix, width, length, k.point);
-    if g.verdict.number != 0 {
-        return not_judged(g.verdict);
-    }
+    let k = keys::judge_keys(big, directory, doubles, characters)?;
+    let g = ground::judge_ground(big, scale, tiepoint, matrix, width, length, k.point)?;
     let georeference = g.georeference;
     let corners = g.corners;
-    Judged {
-        verdict: Verdict {
-            number: 0,
-            place: 0,
-        },
+    Ok(Surveyed {
         keys: k.keys,
         minor: k.minor,
         georeference,
         corners,
-    }
+    })
 }

@@ -1,13 +1,18 @@
 -- One law for each answer of rules 27 and 9 to 12. Assumes nothing.
-use Prim.Native.Nat.{ℕ, ◌+◌, ◌-◌, ◌*◌, ◌≤◌}
+use Prim.Native.Nat.{ℕ, ◌*◌, ◌≤◌}
 use mathlib.Core.Path.{◌≡◌, sym, ap, ap₂, ◌∙◌}
 use mathlib.Core.Bool.{Bool, true, false, not, ◌&&◌, ◌||◌}
 use mathlib.Core.List.{List, [], ◌∷◌}
 use native.Mathlib.Omega.{arith}
 use lib.Dec.{lit<}
-use lib.ListN.{length, get_or}
+use lib.ListN.{length}
 use Rattle.paper.specs.Bytes.{run}
-use Rattle.paper.specs.Outcome.{breaks, first_of, first, verdict}
+use Rattle.std.specs.Prelude.{Result, Ok, Err}
+use Rattle.paper.specs.declared.Verdict.{Verdict}
+use Rattle.paper.specs.declared.Entry.{Entry}
+use Rattle.paper.specs.Outcome.{breaks, first_of, first, or_else, verdict}
+use Rattle.outcomes.specs.Ruled.{ruled}
+use Rattle.outcomes.proofs.Ruled.{rule-refuses}
 use Rattle.paper.specs.Tests.{some}
 use Rattle.paper.specs.declared.Outcome.{Outcome}
 use Rattle.paper.specs.declared.Outcome.TheVariants.{Kept as kept, Broken as broken}
@@ -17,10 +22,10 @@ use Rattle.paper.proofs.Bounds.{table-named}
 use Rattle.tags.specs.Index
 use Rattle.tags.specs.declared.Numbers.{Numbers}
 use Rattle.tags.specs.declared.Bits.{Bits}
-use Rattle.tags.specs.declared.Tagged.{Tagged}
 use Rattle.lines.specs.Rows.{nine_of, ten_of, some_misfit}
 use Rattle.lines.specs.Lined.{says, Lined}
-use Rattle.lines.specs.Ready.{entries_at, held_at, Ready, Behind}
+use Rattle.lines.specs.declared.Line.{Line as Row}
+use Rattle.lines.specs.Ready.{entries_at, held_at, at_slot, Ready, Behind}
 use Rattle.lines.proofs.Ruled.{nine-is, ten-is, later-misfits}
 use Rattle.tags.specs.Slots.{line_at, strip_slots, tile_slots, some_at, slot_of_offsets, slot_of_byte_counts}
 use Rattle.tags.specs.Numbers.{numbers_of, bits_of, bits_in, numbers_in, FourBytes, eleven_of, Countable, twelve_of}
@@ -29,23 +34,31 @@ use Rattle.paper.specs.Tag
 use Rattle.layout.specs.Repeats.{later_texts}
 use Rattle.layout.specs.declared.Further.{Further}
 use Rattle.layout.proofs.Repeats.{FurtherHolds, further-holds}
-use Rattle.tags.specs.Tagging.{view_of, tagged_by, tagged_of, Fitting}
+use Rattle.tags.specs.Tagging.{view_of, picture_of, tagged_of, Fitting}
 use Rattle.tags.proofs.Slots.{tiles-are, mixed-is}
 use Rattle.tags.proofs.Rules.{eleven-is, twelve-is}
 use Rattle.tags.proofs.Fetched.{numbers-are, bits-same, count_at, offsets-same, byte-counts-same}
 use Rattle.tags.proofs.Kept.{in-range, eleven-gives}
 
-abbrev pub refused_as : ℕ → ℕ → Tagged
-refused_as k p = record { verdict = verdict k p; width = 0; length = 0; tiled = false }
+-- what one rule by itself answers
+abbrev pub Alone : ℕ → Outcome → Result (Unit {0}) Verdict
+Alone k o = ruled (or_else k o (verdict 0 0)) (tt {0})
+
+-- and where its first part is broken
+first-refused : {A : Type 0} (k : ℕ) (o : Outcome) (os : List Outcome) (w : Verdict) (a : A) {e : Verdict} → Err e ≡ Alone k o
+    → Err e ≡ ruled (or_else k (first_of (o ∷ os)) w) a
+unfolding first_of
+first-refused k kept os w a h = rule-refuses k kept (or_else k (first_of os) w) a _ h
+first-refused k (broken p) os w a h = rule-refuses k (broken p) w a _ h
 
 -- the further entries of 50909 lie in the file
-pub later-holds : {f : List ℕ} {big : Bool} {at c : ℕ} {typs counts starts lens : List ℕ} {g : Further} → Ready table f big at c typs counts starts lens
+pub later-holds : {f : List ℕ} {big : Bool} {at c : ℕ} {found : List Entry} {g : Further} → Ready table f big at c found
     → Behind f big at c g → FurtherHolds f big at c g
 unfolding entries_at
 later-holds {f} {big} {at} {c} r w = further-holds f big at c r.whole r.few w.six w.is
 
 -- what the test of them asks
-pub later_lent : {f : List ℕ} {big : Bool} {at c : ℕ} {typs counts starts lens : List ℕ} {g : Further} → Ready table f big at c typs counts starts lens
+pub later_lent : {f : List ℕ} {big : Bool} {at c : ℕ} {found : List Entry} {g : Further} → Ready table f big at c found
     → Behind f big at c g → {later : List ℕ} → later ≡ run f g.start (12 * g.many) → (12 * g.many ≤ length later) × (g.many ≤ 1024)
 later_lent {f} {g = g} r w e =
     let h = later-holds r w in
@@ -53,8 +66,8 @@ later_lent {f} {g = g} r w e =
     (omega arith, h.few)
 
 -- which families are present, whether that breaks rule 27, and then what rules 9 and 10 say
-module _ {f : List ℕ} {big : Bool} {at c : ℕ} {typs counts starts lens : List ℕ} (r : Ready table f big at c typs counts starts lens)
-    {s t m : Bool} (is-s : s ≡ some_at strip_slots starts) (is-t : t ≡ some_at tile_slots starts) (is_m : m ≡ (s && t) || (not s && not t)) where
+module _ {f : List ℕ} {big : Bool} {at c : ℕ} {found : List Entry} (r : Ready table f big at c found)
+    {s t m : Bool} (is-s : s ≡ some_at strip_slots found) (is-t : t ≡ some_at tile_slots found) (is_m : m ≡ (s && t) || (not s && not t)) where
   t_same : t ≡ tiled (held_at table f big at c)
   unfolding table
   t_same = is-t ∙ tiles-are image_values table-named r
@@ -63,22 +76,22 @@ module _ {f : List ℕ} {big : Bool} {at c : ℕ} {typs counts starts lens : Lis
   unfolding table
   mixed-same = mixed-is image_values table-named r is-s is-t is_m
 
-  pub refused-mixed : {x : Tagged} → m ≡ true → x ≡ refused_as 27 0 → x ≡ tagged_of (view_of table f big at c)
-  unfolding tagged_of tagged_by view_of table_rules first
-  refused-mixed h e = rw (e, mixed-same, h)
+  pub refused-mixed : m ≡ true → Err (verdict 27 0) ≡ tagged_of (view_of table f big at c)
+  unfolding tagged_of view_of table_rules first ruled
+  refused-mixed h = rw (mixed-same, h)
 
-  module _ (alike : m ≡ false) {rows : List (List ℕ)} (l : Lined rows table) {o : Outcome} (is-o : o ≡ nine_of rows t starts) where
+  module _ (alike : m ≡ false) {rows : List Row} (l : Lined rows table) {o : Outcome} (is-o : o ≡ nine_of rows t found) where
     mixed-kept : rule27 (held_at table f big at c) ≡ kept
     mixed-kept = mixed-same ∙ ap (λ (b : Bool). breaks b 0) alike
 
     nine-same : o ≡ rule9 table (held_at table f big at c)
-    nine-same = is-o ∙ ap (λ (b : Bool). nine_of rows b starts) t_same ∙ nine-is r l
+    nine-same = is-o ∙ ap (λ (b : Bool). nine_of rows b found) t_same ∙ nine-is r l
 
-    pub refused-nine : {x : Tagged} {p : ℕ} → o ≡ broken p → x ≡ refused_as 9 p → x ≡ tagged_of (view_of table f big at c)
-    unfolding tagged_of tagged_by view_of table_rules first
-    refused-nine h e = rw (e, mixed-kept, ← nine-same, h)
+    pub refused-nine : {e : Verdict} → Err e ≡ Alone 9 o → Err e ≡ tagged_of (view_of table f big at c)
+    unfolding tagged_of view_of table_rules first
+    refused-nine h = rw (mixed-kept, ← nine-same) (rule-refuses 9 o _ _ _ h)
 
-    module _ (h : o ≡ kept) {u : Outcome} (is-u : u ≡ ten_of rows typs counts starts) {g : Further} (w : Behind f big at c g) where
+    module _ (h : o ≡ kept) {u : Outcome} (is-u : u ≡ ten_of rows found) {g : Further} (w : Behind f big at c g) where
       -- the entries of 50909 behind the first
       abbrev Misfit : Bool
       Misfit = some (λ e. not (fits_the_line (line_at Index.metadata) e)) (later_texts (entries_at f big at c))
@@ -87,11 +100,11 @@ module _ {f : List ℕ} {big : Bool} {at c : ℕ} {typs counts starts lens : Lis
       unfolding line_at table
       ten-same = ap (λ (x : Outcome). first_of (x ∷ breaks Misfit Tag.metadata ∷ [])) is-u ∙ ten-is r w.six l
 
-      pub refused-ten : {x : Tagged} {p : ℕ} → u ≡ broken p → x ≡ refused_as 10 p → x ≡ tagged_of (view_of table f big at c)
-      unfolding tagged_of tagged_by view_of table_rules first first_of
-      refused-ten k e = rw (e, mixed-kept, ← nine-same, h, ← ten-same, k)
+      pub refused-ten : {e : Verdict} → Err e ≡ Alone 10 u → Err e ≡ tagged_of (view_of table f big at c)
+      unfolding tagged_of view_of table_rules first first_of
+      refused-ten k = rw (mixed-kept, ← nine-same, h, ← ten-same) (first-refused 10 u _ _ _ k)
 
-      module _ (k : u ≡ kept) {later : List ℕ} (is_later : later ≡ run f g.start (12 * g.many)) (x : List ℕ) (said : says x (line_at Index.metadata) ≡ true)
+      module _ (k : u ≡ kept) {later : List ℕ} (is_later : later ≡ run f g.start (12 * g.many)) (x : Row) (said : says x (line_at Index.metadata) ≡ true)
           {n : Bool} (is-n : n ≡ some_misfit x big later 0 g.many) where
         misfit-same : n ≡ Misfit
         unfolding entries_at
@@ -100,20 +113,20 @@ module _ {f : List ℕ} {big : Bool} {at c : ℕ} {typs counts starts lens : Lis
             ∙ ap (λ (s : List ℕ). some_misfit x big s 0 g.many) is_later
             ∙ later-misfits x (line_at Index.metadata) said big g.start g.many (run f g.start (12 * g.many)) (later-holds r w).are
 
-        pub refused-later : {x : Tagged} → n ≡ true → x ≡ refused_as 10 Tag.metadata → x ≡ tagged_of (view_of table f big at c)
-        unfolding tagged_of tagged_by view_of table_rules first first_of
-        refused-later b e = rw (e, mixed-kept, ← nine-same, h, ← ten-same, k, ← misfit-same, b)
+        pub refused-later : n ≡ true → Err (verdict 10 Tag.metadata) ≡ tagged_of (view_of table f big at c)
+        unfolding tagged_of view_of table_rules first first_of ruled
+        refused-later b = rw (mixed-kept, ← nine-same, h, ← ten-same, k, ← misfit-same, b)
 
-        pub fitting : n ≡ false → Fitting table f big at c t typs counts starts lens
+        pub fitting : n ≡ false → Fitting table f big at c t found
         unfolding first_of
         fitting b =
             let ten : rule10 table (held_at table f big at c) ≡ kept = sym ten-same ∙ rw (k, ← misfit-same, b) in
             record { ready = r; tiled_is = t_same; twenty_seven = mixed-kept; nine = sym nine-same ∙ h; ten = ten }
 
 -- the numbers and the bits that were fetched, and what rule 11 says of them
-module _ {f : List ℕ} {big : Bool} {at c : ℕ} {t : Bool} {typs counts starts lens : List ℕ} (w : Fitting table f big at c t typs counts starts lens)
-    {n : Numbers} (is-n : n ≡ numbers_in big f t typs starts) (small : FourBytes n) {j : ℕ} (is-j : j ≡ get_or counts Index.bits 0) {b : Bits}
-    (is_b : b ≡ bits_in big j (run f (get_or starts Index.bits 0) (get_or starts Index.bits 0 + get_or lens Index.bits 0 - get_or starts Index.bits 0)))
+module _ {f : List ℕ} {big : Bool} {at c : ℕ} {t : Bool} {found : List Entry} (w : Fitting table f big at c t found)
+    {n : Numbers} (is-n : n ≡ numbers_in big f t found) (small : FourBytes n) {b : Bits}
+    {part : List ℕ} (is-part : part ≡ run f (at_slot found Index.bits).start (at_slot found Index.bits).len) (is_b : b ≡ bits_in big (at_slot found Index.bits).count part)
     {o : Outcome} (is-o : o ≡ eleven_of n b.allowed) where
   abbrev Hs : List Held
   Hs = held_at table f big at c
@@ -124,7 +137,7 @@ module _ {f : List ℕ} {big : Bool} {at c : ℕ} {t : Bool} {typs counts starts
 
   b-same : b ≡ bits_of big Hs
   unfolding table
-  b-same = bits-same image_values table-named w is-j is_b
+  b-same = bits-same image_values table-named w is-part is_b
 
   eleven-same : o ≡ rule11 table big Hs
   eleven-same =
@@ -132,9 +145,9 @@ module _ {f : List ℕ} {big : Bool} {at c : ℕ} {t : Bool} {typs counts starts
       ∙ ap₂ (λ (m : Numbers) (x : Bits). eleven_of m x.allowed) n-same b-same
       ∙ eleven-is big Hs w.twenty_seven w.nine w.ten
 
-  pub refused-eleven : {x : Tagged} {p : ℕ} → o ≡ broken p → x ≡ refused_as 11 p → x ≡ tagged_of (view_of table f big at c)
-  unfolding tagged_of tagged_by view_of table_rules first
-  refused-eleven h e = rw (e, w.twenty_seven, w.nine, w.ten, ← eleven-same, h)
+  pub refused-eleven : {e : Verdict} → Err e ≡ Alone 11 o → Err e ≡ tagged_of (view_of table f big at c)
+  unfolding tagged_of view_of table_rules first
+  refused-eleven h = rw (w.twenty_seven, w.nine, w.ten, ← eleven-same) (rule-refuses 11 o _ _ _ h)
 
   module _ (h : o ≡ kept) where
     pub countable : Countable n
@@ -150,21 +163,20 @@ module _ {f : List ℕ} {big : Bool} {at c : ℕ} {t : Bool} {typs counts starts
           tilelength = a.tilelength_low;
         }
 
-    -- the counts of the offsets, in slot x, and of the byte counts, in slot y
-    module _ {x y : ℕ} (is_x : x ≡ slot_of_offsets t) (is_y : y ≡ slot_of_byte_counts t) {i k l : ℕ} (is-i : i ≡ get_or counts Index.bits 0) (is-k : k ≡ get_or counts x 0)
-        (is-l : l ≡ get_or counts y 0) {u : Outcome} (is-u : u ≡ twelve_of n b t i k l) where
+    -- with the counts of 258, of the offsets and of the byte counts
+    module _ {u : Outcome} (is-u : u ≡ twelve_of n b t (at_slot found Index.bits).count (at_slot found (slot_of_offsets t)).count (at_slot found (slot_of_byte_counts t)).count) where
       twelve-same : u ≡ rule12 big Hs
       unfolding table
       twelve-same =
-          let bits = is-i ∙ count_at image_values table-named w Index.bits (lit< tt) in
-          let offsets = is-k ∙ offsets-same image_values table-named w is_x in
-          let bytecounts = is-l ∙ byte-counts-same image_values table-named w is_y in
+          let bits = count_at image_values table-named w Index.bits (lit< tt) in
+          let offsets = offsets-same image_values table-named w in
+          let bytecounts = byte-counts-same image_values table-named w in
           is-u ∙ (λ z. twelve_of (n-same z) (b-same z) (w.tiled_is z) (bits z) (offsets z) (bytecounts z)) ∙ twelve-is big Hs
 
-      pub refused-twelve : {z : Tagged} {p : ℕ} → u ≡ broken p → z ≡ refused_as 12 p → z ≡ tagged_of (view_of table f big at c)
-      unfolding tagged_of tagged_by view_of table_rules first
-      refused-twelve g e = rw (e, w.twenty_seven, w.nine, w.ten, ← eleven-same, h, ← twelve-same, g)
+      pub refused-twelve : {e : Verdict} → Err e ≡ Alone 12 u → Err e ≡ tagged_of (view_of table f big at c)
+      unfolding tagged_of view_of table_rules first
+      refused-twelve g = rw (w.twenty_seven, w.nine, w.ten, ← eleven-same, h, ← twelve-same) (rule-refuses 12 u _ _ _ g)
 
-      pub accepted : u ≡ kept → record { verdict = verdict 0 0; width = n.width; length = n.length; tiled = t } ≡ tagged_of (view_of table f big at c)
-      unfolding tagged_of tagged_by view_of table_rules first numbers_of
+      pub accepted : u ≡ kept → Ok (record { width = n.width; length = n.length; tiled = t }) ≡ tagged_of (view_of table f big at c)
+      unfolding tagged_of picture_of view_of table_rules first ruled numbers_of
       accepted g = rw (w.twenty_seven, w.nine, w.ten, ← eleven-same, h, ← twelve-same, g, n-same, w.tiled_is)

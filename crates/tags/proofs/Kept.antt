@@ -1,30 +1,29 @@
 -- What rules 11 and 12 say of the values where they are kept. Assumes nothing.
 use Prim.Native.Nat.{ℕ, ◌≤◌, ◌<◌}
-use mathlib.Core.Path.{◌≡◌, refl, sym, ◌∙◌}
-use mathlib.Core.Bool.{Bool, true, false, cond, not, ◌&&◌, ◌||◌, or-false}
-use mathlib.Core.List.{List, [], ◌∷◌}
-use lib.Dec.{eqb, leb, ltb}
-use borrow.Author.Tests.{leb-true, ltb-true, not-false, eqb-true}
-use Rattle.paper.specs.Outcome.{breaks, first_of}
+use mathlib.Core.Path.{◌≡◌}
+use mathlib.Core.Bool.{Bool, true, false, not}
+use mathlib.Core.List.{[], ◌∷◌}
+use native.Mathlib.Omega.{arith}
+use Rattle.std.proofs.lemmas.Grind.{common_steps}
+use borrow.Author.Tests.{not-false}
+use Rattle.paper.specs.Outcome.{first_of}
 use Rattle.paper.specs.declared.Outcome.{Outcome}
 use Rattle.paper.specs.declared.Outcome.TheVariants.{Kept as kept}
 use Rattle.paper.specs.Tests.{some, between, just, allows}
 use Rattle.paper.specs.Tags.{Values, more, sixteens}
 use Rattle.paper.specs.Tag
-use Rattle.paper.proofs.Laws.{and-eq, or-false as both_false, kept-cond}
+use Rattle.paper.proofs.Laws.{kept-cond}
 use Rattle.tags.specs.declared.Numbers.{Numbers}
 use Rattle.tags.specs.declared.Bits.{Bits}
 use Rattle.tags.specs.Numbers.{codings, eleven_by, count_of_pieces, twelve_of}
 
 pub in-range : (a b v : ℕ) → allows (between a b ∷ []) v ≡ true → (a ≤ v) × (v ≤ b)
 unfolding allows some
-in-range a b v h =
-    let p = and-eq (leb a v) (leb v b) (sym (or-false (leb a v && leb v b)) ∙ h) in
-    (leb-true a v p.0, leb-true v b p.1)
+in-range a b v h = (grind (arith, common_steps, h), grind (arith, common_steps, h))
 
 some-sixteens : (v : ℕ) → not (sixteens v) ≡ false → 0 < v
 unfolding sixteens
-some-sixteens v h = ltb-true 0 v (and-eq (ltb 0 v) _ (not-false _ h)).0
+some-sixteens v h = grind (arith, common_steps, h)
 
 -- rule 11 kept
 pub record Allowed (v : Values) (n : Numbers) (bitsallowed : Bool) : Type 0 where
@@ -59,11 +58,6 @@ eleven-gives v n bitsallowed rest h =
       tilelength_low = some-sixteens n.tilelength o.0;
     }
 
-first-both : (b : Bool) (p : ℕ) (os : List Outcome) → first_of (breaks b p ∷ os) ≡ kept → (b ≡ false) × (first_of os ≡ kept)
-unfolding first_of
-first-both true p os h = (cc, cc)
-first-both false p os h = (refl, h)
-
 -- rule 12 kept
 pub record Agreed (n : Numbers) (tiled : Bool) (bitscount offsets bytecounts : ℕ) : Type 0 where
   pub bits_are : bitscount ≡ n.samples
@@ -72,15 +66,6 @@ pub record Agreed (n : Numbers) (tiled : Bool) (bitscount offsets bytecounts : �
 
 pub twelve-gives : (n : Numbers) (b : Bits) (tiled : Bool) (bitscount offsets bytecounts : ℕ)
     → twelve_of n b tiled bitscount offsets bytecounts ≡ kept → Agreed n tiled bitscount offsets bytecounts
-unfolding twelve_of
+unfolding twelve_of first_of
 twelve-gives n b tiled bitscount offsets bytecounts h =
-    let pieces = count_of_pieces n tiled in
-    let x = first-both (not (eqb bitscount n.samples) || not b.same) Tag.bits _ h in
-    let y = first-both ((eqb n.compression 2 || eqb n.compression 32773) && (not (eqb b.first 1) || not (eqb n.samples 1))) Tag.compression _ x.1 in
-    let z = first-both (not (eqb offsets pieces)) (cond tiled Tag.tile_offsets Tag.strip_offsets) _ y.1 in
-    let u = first-both (not (eqb bytecounts pieces)) (cond tiled Tag.tile_byte_counts Tag.strip_byte_counts) [] z.1 in
-    record {
-      bits_are = eqb-true _ _ (not-false _ (both_false (not (eqb bitscount n.samples)) _ x.0).0);
-      offsets_are = eqb-true _ _ (not-false _ z.0);
-      byte_counts_are = eqb-true _ _ (not-false _ u.0);
-    }
+    record { bits_are = grind (arith, common_steps, h); offsets_are = grind (arith, common_steps, h); byte_counts_are = grind (arith, common_steps, h) }

@@ -1,6 +1,5 @@
 -- The laws of this crate, file by file: what callers lean on is in Slots and Accepted. Assumes nothing.
 pub mod Values
-pub mod Tested
 pub mod Slots
 pub mod Rules
 pub mod Fetched

@@ -2,13 +2,12 @@
 -- that is allowed, and a line with no value rule disallows nothing. Assumes nothing.
 use Prim.Native.Nat.{ℕ, ◌≤◌, ◌<◌}
 use mathlib.Core.Path.{◌≡◌, refl, sym, ap, ◌∙◌}
-use mathlib.Core.Bool.{Bool, true, false, cond, not, ◌&&◌, ◌||◌, and-true, and-false, false≢true}
+use mathlib.Core.Bool.{Bool, true, false, cond, not, ◌||◌}
 use mathlib.Core.List.{List, [], ◌∷◌}
-use native.Mathlib.Nat.{mul-zero}
 use native.Mathlib.Omega.{arith}
-use lib.Dec.{eqb, leb, lit<}
+use Rattle.std.proofs.lemmas.Grind.{common_steps}
+use lib.Dec.{eqb, lit<}
 use lib.ListN.{length, get_or, drop}
-use borrow.Author.Tests.{leb-true, not-false}
 use Rattle.paper.specs.Bytes.{build, elems}
 use Rattle.paper.specs.Outcome.{first_bad}
 use Rattle.paper.specs.declared.Outcome.TheVariants.{Kept as kept}
@@ -16,7 +15,7 @@ use Rattle.paper.specs.Tests.{all, some, allows}
 use Rattle.paper.specs.Tags.{Line, any, sixteens, Values, picture_lines, image_values, table, named, Held, find, has, count_of, value_of, values_of, strip_tags, tile_tags, has_some, tiled}
 use Rattle.paper.specs.Tags.{offsets_tag, byte_counts_tag, piece_count, lacks, fits_the_line, disallowed, rule27, rule9, rule10, rule11, rule12}
 use Rattle.paper.specs.Tag
-use Rattle.paper.proofs.Laws.{and-eq, breaks-kept, kept-all}
+use Rattle.paper.proofs.Laws.{kept-all}
 use Rattle.paper.proofs.Kept.{among, has-none}
 use Rattle.paper.proofs.Bounds.{no_line, table-named, fits_line}
 use Rattle.tags.specs.Index
@@ -40,17 +39,12 @@ module _ (tb : List Line) (names : all named tb ≡ true) (hs : List Held) (ten 
   pub lined : (k : ℕ) → k < length tb → has (get_or tb k no_line).tag hs ≡ true → LinedBy hs (get_or tb k no_line)
   unfolding fits_the_line
   lined k h p =
-      let l : Line = get_or tb k no_line in
-      let e = (find (get_or tb k no_line).tag hs).entry in
-      let a = and-eq (eqb e.typ l.type || eqb e.typ l.other) _ (fits_line tb names hs ten k h p) in
-      let b = and-eq (leb l.least e.count) (leb e.count l.most) a.1 in
-      record { present = p; kind = a.0; low = leb-true _ _ b.0; high = leb-true _ _ b.1 }
+      let fits = fits_line tb names hs ten k h p in
+      record { present = p; kind = grind (arith, common_steps, fits); low = grind (arith, common_steps, fits); high = grind (arith, common_steps, fits) }
 
   needed-has : rule9 tb hs ≡ kept → (k : ℕ) → k < length tb → (get_or tb k no_line).needed (tiled hs) ≡ true → has (get_or tb k no_line).tag hs ≡ true
   unfolding rule9 lacks
-  needed-has nine k h n =
-      let m : (get_or tb k no_line).needed (tiled hs) && not (has (get_or tb k no_line).tag hs) ≡ false = kept-all (lacks hs) _ tb no_line nine k h in
-      not-false _ (rw n at m)
+  needed-has nine k h n = grind (arith, common_steps, n, kept-all (lacks hs) _ tb no_line nine k h)
 
   -- and is present where it is needed
   pub needed-lined : rule9 tb hs ≡ kept → (k : ℕ) → k < length tb → (get_or tb k no_line).needed (tiled hs) ≡ true → LinedBy hs (get_or tb k no_line)
@@ -58,17 +52,15 @@ module _ (tb : List Line) (names : all named tb ≡ true) (hs : List Held) (ten 
 
 -- ---- its values
 
-one_value : (big : Bool) (t : ℕ) (hs : List Held) → count_of t hs ≡ 1 → values_of big t hs ≡ value_of big t hs ∷ []
-unfolding values_of value_of elems build
-one_value big t hs e = rw (e, mul-zero)
-
 module _ (big : Bool) (hs : List Held) where
+  one_value : (t : ℕ) → count_of t hs ≡ 1 → values_of big t hs ≡ value_of big t hs ∷ []
+  unfolding values_of value_of elems build
+  one_value t e = grind (arith, common_steps, e)
+
   -- a tag of count 1
   pub one-bad : (l : Line) → Lined hs l.tag l.type l.other 1 1 → disallowed big hs l ≡ not (l.values (value_of big l.tag hs))
   unfolding disallowed all
-  one-bad l g =
-      let e : count_of l.tag hs ≡ 1 = omega (arith, g.low, g.high) in
-      rw (g.present, one_value big l.tag hs e, and-true)
+  one-bad l g = grind (arith, common_steps, g, one_value l.tag)
 
   -- a line with no value rule
   any-all : (vs : List ℕ) → all any vs ≡ true
@@ -78,17 +70,14 @@ module _ (big : Bool) (hs : List Held) where
 
   any-bad : (l : Line) → l.values ≡ any → disallowed big hs l ≡ false
   unfolding disallowed
-  any-bad l e = rw (e, any-all, and-false)
+  any-bad l e = grind (arith, common_steps, e, any-all)
 
   -- a tag of count 1 that is present where it is asked for, and else absent; not asked for, it counts as one that is allowed
-  absent-bad : (l : Line) (other : ℕ) → l.values other ≡ true → has l.tag hs ≡ false → disallowed big hs l ≡ not (l.values other)
-  unfolding disallowed
-  absent-bad l other ok p = rw (p, ok)
-
   asked-bad : (l : Line) (other : ℕ) (asked : Bool) → (asked ≡ true → Lined hs l.tag l.type l.other 1 1) → (asked ≡ false → has l.tag hs ≡ false)
       → l.values other ≡ true → disallowed big hs l ≡ not (l.values (cond asked (value_of big l.tag hs) other))
+  unfolding disallowed
   asked-bad l other true g n ok = one-bad l (g refl)
-  asked-bad l other false g n ok = absent-bad l other ok (n refl)
+  asked-bad l other false g n ok = grind (arith, common_steps, n refl, ok)
 
   -- a tag with some values
   some-bad : (l : Line) → LinedBy hs l → disallowed big hs l ≡ not (all l.values (values_of big l.tag hs))
@@ -101,13 +90,7 @@ module _ (big : Bool) (hs : List Held) where
 module _ (hs : List Held) (mixed : rule27 hs ≡ kept) where
   none-else : (b : Bool) → tiled hs ≡ b → has_some (cond b strip_tags tile_tags) hs ≡ false
   unfolding rule27
-  none-else true e = not-both _ _ e (breaks-kept _ _ mixed)
-    where
-      not-both : (s t : Bool) → t ≡ true → (s && t) || (not s && not t) ≡ false → s ≡ false
-      not-both true true h k = absurd (false≢true (sym k))
-      not-both true false h k = absurd (false≢true h)
-      not-both false t h k = refl
-  none-else false e = e
+  none-else b e = grind (arith, common_steps, e, mixed)
 
   pub no-strip : tiled hs ≡ true → (t : ℕ) → among strip_tags t ≡ true → has t hs ≡ false
   no-strip e t m = has-none strip_tags hs t (none-else true e) m
@@ -118,8 +101,7 @@ module _ (hs : List Held) (mixed : rule27 hs ≡ kept) where
 -- ---- the two rules
 
 not-not : (b : Bool) → not b ≡ false → b ≡ true
-not-not true h = refl
-not-not false h = sym h
+not-not b h = grind (arith, common_steps, h)
 
 -- of any picture
 pub eleven-by : (v : Values) (others : List Line) → all named (picture_lines v others) ≡ true → (big : Bool) (hs : List Held)
@@ -166,11 +148,7 @@ eleven-is big hs mixed nine ten =
 
 pub counted_is : (big : Bool) (hs : List Held) → count_of_pieces (numbers_of big hs) (tiled hs) ≡ piece_count big hs
 unfolding count_of_pieces numbers_of piece_count
-counted_is big hs = go (tiled hs) refl
-  where
-    go : (t : Bool) → tiled hs ≡ t → count_of_pieces (numbers_of big hs) (tiled hs) ≡ piece_count big hs
-    go true e = rw e
-    go false e = rw e
+counted_is big hs = grind (arith, common_steps)
 
 pub twelve-is : (big : Bool) (hs : List Held)
     → twelve_of (numbers_of big hs) (bits_of big hs) (tiled hs) (count_of Tag.bits hs) (count_of (offsets_tag hs) hs) (count_of (byte_counts_tag hs) hs) ≡ rule12 big hs

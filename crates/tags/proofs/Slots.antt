@@ -1,4 +1,5 @@
--- What the columns of a picture's directory say of each tag of its table, and of the two families; and what the image's table must satisfy. Assumes nothing.
+-- What the entries that a picture's directory has of its table's tags say of each tag, and of the two families; and what the image's table must satisfy.
+-- Assumes nothing.
 use Prim.Native.Nat.{ℕ, ◌<◌}
 use mathlib.Core.Path.{◌≡◌, refl, sym, ap, ap₂, ◌∙◌}
 use mathlib.Core.Bool.{Bool, true, false, not, ◌&&◌, ◌||◌}
@@ -16,16 +17,22 @@ use Rattle.paper.proofs.Laws.{or-false, kept-all}
 use Rattle.paper.proofs.Several.{first-or-later, later-held}
 use Rattle.paper.proofs.Bounds.{no_line, table-named}
 use Rattle.layout.specs.Repeats.{later_texts}
-use Rattle.lines.specs.Lined.{all_say, text_last, Lined}
-use Rattle.lines.specs.Ready.{entries_at, held_at, Ready}
+use Rattle.lines.specs.Rows.{needed_by}
+use Rattle.lines.specs.Lined.{says, all_say, text_last, Lined}
+use Rattle.tags.specs.declared.table.TheConstants.{LINES}
+use Rattle.lines.specs.Ready.{entries_at, held_at, at_slot, Ready}
 use Rattle.lines.proofs.Slots.{Slot, slot}
 use Rattle.tags.specs.Index
 use Rattle.tags.specs.Slots.{line_at, tag_at, strip_slots, tile_slots, some_at}
 
--- rows that say what the lines of the paper's table say are all that rules 9 and 10 ask
-pub lined : (rows : List (List ℕ)) → all_say rows table ≡ true → Lined rows table
+-- the rows of the code say what the lines of the paper's table say, which is all that rules 9 and 10 ask
+said : all_say LINES table ≡ true
+unfolding all_say says needed_by table
+said = refl
+
+pub lined : Lined LINES table
 unfolding table text_last
-lined rows h = record { say = h; tags = table-named; text = refl }
+lined = record { say = said; tags = table-named; text = refl }
 
 -- where rule 10 is kept, the entries of 50909 behind the first fit its line
 pub later-fit : (f : List ℕ) (big : Bool) (at c : ℕ) → rule10 table (held_at table f big at c) ≡ kept
@@ -41,8 +48,8 @@ later-fit f big at c ten =
 -- ---- the image's table
 
 -- line k
-pub slot_at : {f : List ℕ} {big : Bool} {at c : ℕ} {typs counts starts lens : List ℕ} → Ready table f big at c typs counts starts lens → (k : ℕ) → k < Index.many
-    → Slot f (held_at table f big at c) typs counts starts lens (tag_at k) k
+pub slot_at : {f : List ℕ} {big : Bool} {at c : ℕ} {found : List Entry} → Ready table f big at c found → (k : ℕ) → k < Index.many
+    → Slot f (held_at table f big at c) found (tag_at k) k
 unfolding tag_at line_at table
 slot_at r k h = slot r table-named k h
 
@@ -56,25 +63,25 @@ in_image h = omega arith
 pub in-front : (v : Values) (others : List Line) (k : ℕ) → k < Index.pictured → k < length (picture_lines v others)
 in-front v others k h = omega arith
 
-module _ (v : Values) {others : List Line} (names : all named (picture_lines v others) ≡ true) {f : List ℕ} {big : Bool} {at c : ℕ} {typs counts starts lens : List ℕ}
-    (r : Ready (picture_lines v others) f big at c typs counts starts lens) where
+module _ (v : Values) {others : List Line} (names : all named (picture_lines v others) ≡ true) {f : List ℕ} {big : Bool} {at c : ℕ} {found : List Entry}
+    (r : Ready (picture_lines v others) f big at c found) where
   abbrev Hs : List Held
   Hs = held_at (picture_lines v others) f big at c
 
-  present-at : (k : ℕ) → k < Index.pictured → has (get_or (picture_lines v others) k no_line).tag Hs ≡ not (eqb (get_or starts k 0) 0)
+  present-at : (k : ℕ) → k < Index.pictured → has (get_or (picture_lines v others) k no_line).tag Hs ≡ not (eqb (at_slot found k).start 0)
   present-at k h = (slot r names k (in-front v others k h)).present
 
   -- the families
-  strips-are : some_at strip_slots starts ≡ has_some strip_tags Hs
+  strips-are : some_at strip_slots found ≡ has_some strip_tags Hs
   unfolding some_at has_some some
   strips-are = rw (present-at Index.strip_offsets (lit< tt), present-at Index.rows_per_strip (lit< tt), present-at Index.strip_byte_counts (lit< tt))
 
-  pub tiles-are : some_at tile_slots starts ≡ tiled (held_at (picture_lines v others) f big at c)
+  pub tiles-are : some_at tile_slots found ≡ tiled (held_at (picture_lines v others) f big at c)
   unfolding some_at has_some some
   tiles-are = rw (present-at Index.tile_width (lit< tt), present-at Index.tile_length (lit< tt), present-at Index.tile_offsets (lit< tt), present-at Index.tile_byte_counts (lit< tt))
 
   -- and rule 27 of them
-  pub mixed-is : {s t m : Bool} → s ≡ some_at strip_slots starts → t ≡ some_at tile_slots starts → m ≡ (s && t) || (not s && not t)
+  pub mixed-is : {s t m : Bool} → s ≡ some_at strip_slots found → t ≡ some_at tile_slots found → m ≡ (s && t) || (not s && not t)
       → rule27 (held_at (picture_lines v others) f big at c) ≡ breaks m 0
   unfolding rule27
   mixed-is is-s is-t is_m =

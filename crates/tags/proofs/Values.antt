@@ -1,21 +1,18 @@
 -- The values that rules 11 and 12 ask for, as code tests and reads them. Assumes nothing.
-use Prim.Native.Nat.{ℕ, suc, ◌+◌, ◌-◌, ◌*◌, ◌≤◌, ◌<◌}
+use Prim.Native.Nat.{ℕ, ◌+◌, ◌-◌, ◌*◌, ◌≤◌, ◌<◌}
 use mathlib.Core.Path.{◌≡◌, sym, ap, ◌∙◌}
-use mathlib.Core.Bool.{Bool, true, false, ◌&&◌, ◌||◌, or-false, and-true, and_assoc}
+use mathlib.Core.Bool.{Bool, true, ◌&&◌, ◌||◌, or-false, and-true, and_assoc}
 use mathlib.Core.List.{List, [], ◌∷◌, map}
-use native.Mathlib.Nat.{le_refl, suc-mul, mul-le-mul, le_of_suc-le-suc, div-lt_iff_lt-mul}
+use native.Mathlib.Nat.{mul-le-mul}
 use native.Mathlib.Omega.{arith}
 use lib.Dec.{eqb}
 use mir.Syntax.{w64}
 use mir.Val.{Fits}
-use borrow.Author.Tests.{eqb-true, ne_eqb}
 use Rattle.paper.specs.Bytes.{num, build, elems}
-use Rattle.paper.specs.Layout.{size_of}
-use Rattle.paper.specs.Tags.{rounded_up}
 use Rattle.paper.specs.Tests.{all, some, just, allows}
 use Rattle.paper.proofs.Laws.{just-is}
 use Rattle.paper.proofs.Loops.{all-step, build-end}
-use Rattle.tags.specs.Numbers.{depths, bits_in, Single}
+use Rattle.tags.specs.Numbers.{depths, bits_in}
 
 -- ---- one of some numbers
 
@@ -27,22 +24,6 @@ pub one_of : (v a : ℕ) (bs : List ℕ) → is_one v a bs ≡ allows (map just 
 unfolding allows some
 one_of v a [] = rw (just-is v a, or-false (eqb v a))
 one_of v a (b ∷ bs) = rw (just-is v a) (ap (λ (t : Bool). eqb v a || t) (one_of v b bs))
-
--- ---- a value that is SHORT or LONG
-
-pub long-within : {n typ start : ℕ} → Single n typ start → typ ≡ 4 → start + 4 ≤ n
-unfolding size_of
-long-within s e = let w = s.within in rw e at w
-
-pub not-long : {n typ start : ℕ} → Single n typ start → (typ ≡ 4 → ⊥) → typ ≡ 3
-not-long {typ = typ} s e =
-    let k : eqb typ 3 || eqb typ 4 ≡ true = s.kind in
-    let l : eqb typ 3 || false ≡ true = rw (ne_eqb typ 4 e) at k in
-    eqb-true typ 3 (sym (or-false (eqb typ 3)) ∙ l)
-
-pub short-within : {n typ start : ℕ} → Single n typ start → (typ ≡ 4 → ⊥) → start + 2 ≤ n
-unfolding size_of
-short-within s e = let w = s.within in rw (not-long s e) at w
 
 -- ---- a pass over k SHORTs
 
@@ -75,16 +56,6 @@ pub bits-read : {s : List ℕ} {big : Bool} {k i first : ℕ} {allowed same : Bo
     → SoFar s big k (allows depths) i allowed → SoFar s big k (eqb first) i same → record { first = first; allowed = allowed; same = same } ≡ bits_in big k s
 unfolding bits_in
 bits-read l m e a b = rw (so-far-all l m a, so-far-all l m b, e)
-
--- ---- a quotient, rounded up
-
-pub rounded-low : (a b : ℕ) → 0 < b → rounded_up a b ≤ a
-unfolding rounded_up
-rounded-low a b h =
-    let m : a * 1 ≤ a * b = mul-le-mul {n₁ = a} {m₁ = 1} {n₂ = a} {m₂ = b} (le_refl a) h in
-    let e : suc a * b ≡ a * b + b = suc-mul a b in
-    let x : a + (b - 1) < suc a * b = omega arith in
-    le_of_suc-le-suc ((div-lt_iff_lt-mul {k = b} {x = a + (b - 1)} {y = suc a} h).1 x)
 
 -- a product of two that are at most a million is a number of 8 bytes
 pub product-fits : {a b c d : ℕ} → a ≤ c → c ≤ 1000000 → b ≤ d → d ≤ 1000000 → Fits w64 (a * b)

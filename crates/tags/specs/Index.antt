@@ -1,4 +1,4 @@
--- The line of each tag in the image's table, counted from 0, under the tag's name: its slot in the columns. Those of a picture's tags, in front, are the
+-- The line of each tag in the image's table, counted from 0, under the tag's name: the slot of its entry. Those of a picture's tags, in front, are the
 -- same in every table of a picture. Assumes nothing.
 use Rattle.std.specs.Prelude.{ℕ}
 

@@ -1,5 +1,5 @@
 -- The values that rules 11 and 12 ask for, as the paper has them and as they stand in a file, and the two rules over these. Assumes nothing.
-use Rattle.std.specs.Prelude.{ℕ, ◌+◌, ◌*◌, ◌≤◌, ◌<◌, ◌≡◌, Bool, true, cond, not, ◌&&◌, ◌||◌, List, [], ◌∷◌, eqb, get_or}
+use Rattle.std.specs.Prelude.{ℕ, ◌+◌, ◌*◌, ◌≤◌, ◌<◌, ◌≡◌, Bool, true, cond, not, ◌&&◌, ◌||◌, List, [], ◌∷◌, eqb}
 use Rattle.paper.specs.Bytes.{run, num, elems}
 use Rattle.paper.specs.Outcome.{breaks, first_of}
 use Rattle.paper.specs.declared.Outcome.{Outcome}
@@ -8,6 +8,8 @@ use Rattle.paper.specs.Tests.{all, Range, between, just, allows}
 use Rattle.paper.specs.Layout.{size_of}
 use Rattle.paper.specs.Tag
 use Rattle.paper.specs.Tags.{Values, image_values, more, sixteens, Held, has, value_of, values_of, tiled, rounded_up}
+use Rattle.paper.specs.declared.Entry.{Entry}
+use Rattle.lines.specs.Ready.{at_slot}
 use Rattle.tags.specs.Index
 use Rattle.tags.specs.declared.Numbers.{Numbers}
 use Rattle.tags.specs.declared.Bits.{Bits}
@@ -49,46 +51,46 @@ unfoldable pub short_in : Bool → List ℕ → ℕ → ℕ
 short_in big f start = num big 2 (run f start 2) 0
 
 -- of a type that is SHORT or LONG
-unfoldable pub number_in : Bool → List ℕ → ℕ → ℕ → ℕ
-number_in big f typ start = num big (size_of typ) (run f start (size_of typ)) 0
+unfoldable pub number_in : Bool → List ℕ → Entry → ℕ
+number_in big f e = num big (size_of e.typ) (run f e.start (size_of e.typ)) 0
 
 -- of a tag that is asked for, and else `other`
-unfoldable pub number_if : Bool → Bool → List ℕ → ℕ → ℕ → ℕ → ℕ
-number_if asked big f typ start other = cond asked (number_in big f typ start) other
+unfoldable pub number_if : Bool → Bool → List ℕ → Entry → ℕ → ℕ
+number_if asked big f e other = cond asked (number_in big f e) other
 
 -- such a value lies in a file of n bytes
-pub record Single (n typ start : ℕ) : Type 0 where
-  pub kind : eqb typ 3 || eqb typ 4 ≡ true
-  pub within : start + size_of typ ≤ n
+pub record Single (n : ℕ) (e : Entry) : Type 0 where
+  pub kind : eqb e.typ 3 || eqb e.typ 4 ≡ true
+  pub within : e.start + size_of e.typ ≤ n
 
 -- where it is asked for
-abbrev pub SingleIf : Bool → ℕ → ℕ → ℕ → Type 0
-SingleIf asked n typ start = asked ≡ true → Single n typ start
+abbrev pub SingleIf : Bool → ℕ → Entry → Type 0
+SingleIf asked n e = asked ≡ true → Single n e
 
-unfoldable pub numbers_in : Bool → List ℕ → Bool → List ℕ → List ℕ → Numbers
-numbers_in big f tiled typs starts =
+unfoldable pub numbers_in : Bool → List ℕ → Bool → List Entry → Numbers
+numbers_in big f tiled found =
     record {
-      width = number_in big f (get_or typs Index.width 0) (get_or starts Index.width 0);
-      length = number_in big f (get_or typs Index.length 0) (get_or starts Index.length 0);
-      compression = short_in big f (get_or starts Index.compression 0);
-      photometric = short_in big f (get_or starts Index.photometric 0);
-      samples = short_in big f (get_or starts Index.samples 0);
-      rows = number_if (not tiled) big f (get_or typs Index.rows_per_strip 0) (get_or starts Index.rows_per_strip 0) 1;
-      planar = number_if (not (eqb (get_or starts Index.planar 0) 0)) big f (get_or typs Index.planar 0) (get_or starts Index.planar 0) 1;
-      tilewidth = number_if tiled big f (get_or typs Index.tile_width 0) (get_or starts Index.tile_width 0) 16;
-      tilelength = number_if tiled big f (get_or typs Index.tile_length 0) (get_or starts Index.tile_length 0) 16;
+      width = number_in big f (at_slot found Index.width);
+      length = number_in big f (at_slot found Index.length);
+      compression = short_in big f (at_slot found Index.compression).start;
+      photometric = short_in big f (at_slot found Index.photometric).start;
+      samples = short_in big f (at_slot found Index.samples).start;
+      rows = number_if (not tiled) big f (at_slot found Index.rows_per_strip) 1;
+      planar = number_if (not (eqb (at_slot found Index.planar).start 0)) big f (at_slot found Index.planar) 1;
+      tilewidth = number_if tiled big f (at_slot found Index.tile_width) 16;
+      tilelength = number_if tiled big f (at_slot found Index.tile_length) 16;
     }
 
-pub record Readable (n : ℕ) (tiled : Bool) (typs starts : List ℕ) : Type 0 where
-  pub width : Single n (get_or typs Index.width 0) (get_or starts Index.width 0)
-  pub length : Single n (get_or typs Index.length 0) (get_or starts Index.length 0)
-  pub compression : get_or starts Index.compression 0 + 2 ≤ n
-  pub photometric : get_or starts Index.photometric 0 + 2 ≤ n
-  pub samples : get_or starts Index.samples 0 + 2 ≤ n
-  pub rows : SingleIf (not tiled) n (get_or typs Index.rows_per_strip 0) (get_or starts Index.rows_per_strip 0)
-  pub planar : SingleIf (not (eqb (get_or starts Index.planar 0) 0)) n (get_or typs Index.planar 0) (get_or starts Index.planar 0)
-  pub tilewidth : SingleIf tiled n (get_or typs Index.tile_width 0) (get_or starts Index.tile_width 0)
-  pub tilelength : SingleIf tiled n (get_or typs Index.tile_length 0) (get_or starts Index.tile_length 0)
+pub record Readable (n : ℕ) (tiled : Bool) (found : List Entry) : Type 0 where
+  pub width : Single n (at_slot found Index.width)
+  pub length : Single n (at_slot found Index.length)
+  pub compression : (at_slot found Index.compression).start + 2 ≤ n
+  pub photometric : (at_slot found Index.photometric).start + 2 ≤ n
+  pub samples : (at_slot found Index.samples).start + 2 ≤ n
+  pub rows : SingleIf (not tiled) n (at_slot found Index.rows_per_strip)
+  pub planar : SingleIf (not (eqb (at_slot found Index.planar).start 0)) n (at_slot found Index.planar)
+  pub tilewidth : SingleIf tiled n (at_slot found Index.tile_width)
+  pub tilelength : SingleIf tiled n (at_slot found Index.tile_length)
 
 -- each number that is counted with is one of 4 bytes
 pub record FourBytes (n : Numbers) : Type 0 where

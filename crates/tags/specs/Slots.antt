@@ -2,6 +2,8 @@
 use Rattle.std.specs.Prelude.{ℕ, Bool, cond, not, List, [], ◌∷◌, eqb, get_or}
 use Rattle.paper.specs.Tests.{some}
 use Rattle.paper.specs.Tags.{Line, line, no, any, table}
+use Rattle.paper.specs.declared.Entry.{Entry}
+use Rattle.lines.specs.Ready.{at_slot}
 use Rattle.tags.specs.Index
 
 -- line k of the table, counted from 0, and its tag
@@ -19,8 +21,8 @@ abbrev pub tile_slots : List ℕ
 tile_slots = Index.tile_width ∷ Index.tile_length ∷ Index.tile_offsets ∷ Index.tile_byte_counts ∷ []
 
 -- some tag of these lines is present: it starts elsewhere than at 0
-unfoldable pub some_at : List ℕ → List ℕ → Bool
-some_at ks starts = some (λ k. not (eqb (get_or starts k 0) 0)) ks
+unfoldable pub some_at : List ℕ → List Entry → Bool
+some_at ks found = some (λ k. not (eqb (at_slot found k).start 0)) ks
 
 -- the lines that say where the pieces lie
 unfoldable pub slot_of_offsets : Bool → ℕ

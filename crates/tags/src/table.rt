@@ -1,32 +1,33 @@
 // The image's table of tags, as document 01 and request C-11 print it, a line a tag: its number, when it is needed, the one or two types that it may
 // have, the least and the most of its count. Which values are allowed is in `allowed_values`.
-use lines::{ASCII, BYTE, DOUBLE, LONG, MORE, NO, SHORT, STRIPS, TAG, TILES, WIDE, YES};
+use layout::Cell;
+use lines::{ASCII, BYTE, DOUBLE, LONG, Line, MORE, SHORT, table};
 
-pub const LINES: [[u32; WIDE]; SLOTS] = [
-    [256, YES, SHORT, LONG, 1, 1],
-    [257, YES, SHORT, LONG, 1, 1],
-    [258, YES, SHORT, SHORT, 1, MORE],
-    [259, YES, SHORT, SHORT, 1, 1],
-    [262, YES, SHORT, SHORT, 1, 1],
-    [273, STRIPS, SHORT, LONG, 1, MORE],
-    [277, YES, SHORT, SHORT, 1, 1],
-    [278, STRIPS, SHORT, LONG, 1, 1],
-    [279, STRIPS, SHORT, LONG, 1, MORE],
-    [284, NO, SHORT, SHORT, 1, 1],
-    [322, TILES, SHORT, LONG, 1, 1],
-    [323, TILES, SHORT, LONG, 1, 1],
-    [324, TILES, LONG, LONG, 1, MORE],
-    [325, TILES, SHORT, LONG, 1, MORE],
-    [33550, NO, DOUBLE, DOUBLE, 3, 3],
-    [33922, NO, DOUBLE, DOUBLE, 6, 6],
-    [34264, NO, DOUBLE, DOUBLE, 16, 16],
-    [34735, YES, SHORT, SHORT, 4, MORE],
-    [34736, NO, DOUBLE, DOUBLE, 1, MORE],
-    [34737, NO, ASCII, ASCII, 1, MORE],
-    [50909, NO, BYTE, BYTE, 1, MORE],
+pub const LINES: [Line; SLOTS] = table![
+    [256, Always, SHORT, LONG, 1, 1],
+    [257, Always, SHORT, LONG, 1, 1],
+    [258, Always, SHORT, SHORT, 1, MORE],
+    [259, Always, SHORT, SHORT, 1, 1],
+    [262, Always, SHORT, SHORT, 1, 1],
+    [273, Strips, SHORT, LONG, 1, MORE],
+    [277, Always, SHORT, SHORT, 1, 1],
+    [278, Strips, SHORT, LONG, 1, 1],
+    [279, Strips, SHORT, LONG, 1, MORE],
+    [284, Never, SHORT, SHORT, 1, 1],
+    [322, Tiles, SHORT, LONG, 1, 1],
+    [323, Tiles, SHORT, LONG, 1, 1],
+    [324, Tiles, LONG, LONG, 1, MORE],
+    [325, Tiles, SHORT, LONG, 1, MORE],
+    [33550, Never, DOUBLE, DOUBLE, 3, 3],
+    [33922, Never, DOUBLE, DOUBLE, 6, 6],
+    [34264, Never, DOUBLE, DOUBLE, 16, 16],
+    [34735, Always, SHORT, SHORT, 4, MORE],
+    [34736, Never, DOUBLE, DOUBLE, 1, MORE],
+    [34737, Never, ASCII, ASCII, 1, MORE],
+    [50909, Never, BYTE, BYTE, 1, MORE],
 ];
 
-// The line of each tag, from 0, which is its slot in the columns too.
+// The line of each tag, from 0, which is the slot of its entry too. Plain numbers, since they index lists: a variant of an enum would be cast at each use.
 pub const WIDTH: usize = 0;
 
 pub const LENGTH: usize = 1;
@@ -72,113 +73,58 @@ pub const METADATA: usize = 20;
 // How many there are.
 pub const SLOTS: usize = 21;
 
-// The tags that a rule names by themselves.
-pub const TAG_WIDTH: u32 = LINES[WIDTH][TAG];
-
-pub const TAG_LENGTH: u32 = LINES[LENGTH][TAG];
-
-pub const TAG_BITS: u32 = LINES[BITS][TAG];
-
-pub const TAG_COMPRESSION: u32 = LINES[COMPRESSION][TAG];
-
-pub const TAG_PHOTOMETRIC: u32 = LINES[PHOTOMETRIC][TAG];
-
-pub const TAG_STRIP_OFFSETS: u32 = LINES[STRIP_OFFSETS][TAG];
-
-pub const TAG_SAMPLES: u32 = LINES[SAMPLES][TAG];
-
-pub const TAG_ROWS_PER_STRIP: u32 = LINES[ROWS_PER_STRIP][TAG];
-
-pub const TAG_STRIP_BYTE_COUNTS: u32 = LINES[STRIP_BYTE_COUNTS][TAG];
-
-pub const TAG_PLANAR: u32 = LINES[PLANAR][TAG];
-
-pub const TAG_TILE_WIDTH: u32 = LINES[TILE_WIDTH][TAG];
-
-pub const TAG_TILE_LENGTH: u32 = LINES[TILE_LENGTH][TAG];
-
-pub const TAG_TILE_OFFSETS: u32 = LINES[TILE_OFFSETS][TAG];
-
-pub const TAG_TILE_BYTE_COUNTS: u32 = LINES[TILE_BYTE_COUNTS][TAG];
-
-pub const TAG_METADATA: u32 = LINES[METADATA][TAG];
-
 // ---- the cells of the tags, for the pass over a directory
 
-// The factor for which no two of them share a cell.
-pub const FACTOR: usize = 687;
+// The cell of a tag, by its slot.
+macro_rules! cell {
+    ($slot:ident) => {
+        Cell {
+            tag: LINES[$slot].tag as u16,
+            slot: $slot as u8,
+        }
+    };
+}
 
 // What stands in a cell that has none of them: a tag of another cell, and no slot.
-const NO_TAG: u16 = 0;
+const NO_CELL: Cell = Cell {
+    tag: 0,
+    slot: SLOTS as u8,
+};
 
-const NO_SLOT: u8 = SLOTS as u8;
+// The factor for which no two of them share a cell.
+pub const FACTOR: u16 = 687;
 
-pub const CELLS: [u16; layout::CELLS] = [
-    LINES[TILE_WIDTH][TAG] as u16,
-    LINES[DOUBLES][TAG] as u16,
-    LINES[TILE_LENGTH][TAG] as u16,
-    LINES[CHARACTERS][TAG] as u16,
-    NO_TAG,
-    LINES[TILE_OFFSETS][TAG] as u16,
-    NO_TAG,
-    LINES[SAMPLES][TAG] as u16,
-    LINES[TILE_BYTE_COUNTS][TAG] as u16,
-    NO_TAG,
-    LINES[ROWS_PER_STRIP][TAG] as u16,
-    LINES[METADATA][TAG] as u16,
-    LINES[STRIP_BYTE_COUNTS][TAG] as u16,
-    NO_TAG,
-    LINES[MATRIX][TAG] as u16,
-    LINES[WIDTH][TAG] as u16,
-    NO_TAG,
-    LINES[LENGTH][TAG] as u16,
-    LINES[SCALE][TAG] as u16,
-    NO_TAG,
-    LINES[BITS][TAG] as u16,
-    NO_TAG,
-    NO_TAG,
-    LINES[COMPRESSION][TAG] as u16,
-    LINES[TIEPOINT][TAG] as u16,
-    NO_TAG,
-    LINES[PLANAR][TAG] as u16,
-    NO_TAG,
-    LINES[STRIP_OFFSETS][TAG] as u16,
-    NO_TAG,
-    LINES[KEY_DIRECTORY][TAG] as u16,
-    LINES[PHOTOMETRIC][TAG] as u16,
-];
-
-pub const CELL_SLOTS: [u8; layout::CELLS] = [
-    TILE_WIDTH as u8,
-    DOUBLES as u8,
-    TILE_LENGTH as u8,
-    CHARACTERS as u8,
-    NO_SLOT,
-    TILE_OFFSETS as u8,
-    NO_SLOT,
-    SAMPLES as u8,
-    TILE_BYTE_COUNTS as u8,
-    NO_SLOT,
-    ROWS_PER_STRIP as u8,
-    METADATA as u8,
-    STRIP_BYTE_COUNTS as u8,
-    NO_SLOT,
-    MATRIX as u8,
-    WIDTH as u8,
-    NO_SLOT,
-    LENGTH as u8,
-    SCALE as u8,
-    NO_SLOT,
-    BITS as u8,
-    NO_SLOT,
-    NO_SLOT,
-    COMPRESSION as u8,
-    TIEPOINT as u8,
-    NO_SLOT,
-    PLANAR as u8,
-    NO_SLOT,
-    STRIP_OFFSETS as u8,
-    NO_SLOT,
-    KEY_DIRECTORY as u8,
-    PHOTOMETRIC as u8,
+pub const CELLS: [Cell; layout::CELLS] = [
+    cell!(TILE_WIDTH),
+    cell!(DOUBLES),
+    cell!(TILE_LENGTH),
+    cell!(CHARACTERS),
+    NO_CELL,
+    cell!(TILE_OFFSETS),
+    NO_CELL,
+    cell!(SAMPLES),
+    cell!(TILE_BYTE_COUNTS),
+    NO_CELL,
+    cell!(ROWS_PER_STRIP),
+    cell!(METADATA),
+    cell!(STRIP_BYTE_COUNTS),
+    NO_CELL,
+    cell!(MATRIX),
+    cell!(WIDTH),
+    NO_CELL,
+    cell!(LENGTH),
+    cell!(SCALE),
+    NO_CELL,
+    cell!(BITS),
+    NO_CELL,
+    NO_CELL,
+    cell!(COMPRESSION),
+    cell!(TIEPOINT),
+    NO_CELL,
+    cell!(PLANAR),
+    NO_CELL,
+    cell!(STRIP_OFFSETS),
+    NO_CELL,
+    cell!(KEY_DIRECTORY),
+    cell!(PHOTOMETRIC),
 ];

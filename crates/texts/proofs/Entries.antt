@@ -1,19 +1,17 @@
--- A file as it was examined: the verdict is the paper's, and the key entries that stand in the key directory's part are the paper's keys.
+-- A file as it was examined: the key entries that stand in the key directory's part are the paper's keys.
 -- Assumes nothing.
 use Prim.Native.Nat.{ℕ, ◌+◌, ◌*◌, ◌≤◌}
-use mathlib.Core.Path.{◌≡◌, refl, sym, ap, ◌∙◌, subst}
+use mathlib.Core.Path.{◌≡◌, refl, sym, ap, subst}
 use mathlib.Core.List.{List, []}
 use lib.Dec.{lit<}
 use lib.ListN.{length}
+use Rattle.std.specs.Prelude.{Ok}
 use Rattle.paper.specs.Bytes.{run, build}
 use Rattle.paper.specs.Tag
 use Rattle.paper.specs.Tags.{table, bytes_of}
 use Rattle.paper.specs.Keys.{short, keys, minor_revision, key_count, key_at, rule15}
 use Rattle.paper.specs.Judge.{view, runs_of, verdict_of}
-use Rattle.paper.specs.Calls.{judged_in}
-use Rattle.paper.specs.declared.Judged.{Judged}
 use Rattle.paper.specs.declared.KeyEntry.{KeyEntry}
-use Rattle.paper.proofs.Called.{judged-verdict}
 use Rattle.tags.specs.Index
 use Rattle.tags.specs.Slots.{tag_at, line_at}
 use Rattle.keys.specs.Pass.{runs}
@@ -23,10 +21,7 @@ use Rattle.judge.specs.Examining.{examined_in, examined_of}
 use Rattle.judge.specs.declared.Examined.{Examined}
 use Rattle.paper.proofs.Keeps.{rule15-kept}
 use Rattle.image.proofs.Seen.{Stands}
-use Rattle.judge.proofs.Seen.{judged-is, accepted, found, stands}
-
-pub verdict-is : (f : List ℕ) (e : Examined) → e ≡ examined_of f → e.judged.verdict ≡ verdict_of f
-verdict-is f e is = ap (λ (x : Examined). x.judged.verdict) is ∙ ap (λ (j : Judged). j.verdict) (judged-is f) ∙ judged-verdict f
+use Rattle.judge.proofs.Seen.{accepted, found, stands}
 
 -- the key directory's part of the file, by what was examined
 abbrev pub part_of : List ℕ → Examined → List ℕ
@@ -34,13 +29,13 @@ part_of f e = run f e.directory.start e.directory.len
 
 -- all its key entries
 abbrev pub entries_by : List ℕ → Examined → List KeyEntry
-entries_by f e = build (key_at (runs e.big (part_of f e) [] [])) 0 e.judged.keys
+entries_by f e = build (key_at (runs e.big (part_of f e) [] [])) 0 e.surveyed.keys
 
 -- what is asked to look for a key, and among what it is looked for
 pub record Lists (f : List ℕ) (e : Examined) : Type 0 where
   pub within : e.directory.start + e.directory.len ≤ length f
-  pub few : e.judged.keys ≤ 256
-  pub whole : 8 + 8 * e.judged.keys ≤ length (part_of f e)
+  pub few : e.surveyed.keys ≤ 256
+  pub whole : 8 + 8 * e.surveyed.keys ≤ length (part_of f e)
   pub entries : entries_by f e ≡ keys (runs_of (view f))
 
 module _ (f : List ℕ) (zero : (verdict_of f).number ≡ 0) where
@@ -53,7 +48,7 @@ module _ (f : List ℕ) (zero : (verdict_of f).number ≡ 0) where
   head-is = headed (view f).head.big (bytes_of Tag.key_directory (view f).held) (rule15 (runs_of (view f))) refl (rule15-kept f zero)
 
   in-view : Lists f (examined_in (view f))
-  unfolding examined_in judged_in tag_part runs_of keys key_count short key_at
+  unfolding examined_in tag_part runs_of keys key_count short key_at
   in-view =
       let b = directory.bytes in
       record {
@@ -63,5 +58,5 @@ module _ (f : List ℕ) (zero : (verdict_of f).number ≡ 0) where
         entries = ap (λ (d : List ℕ). build (key_at (runs (view f).head.big d [] [])) 0 (key_count (runs_of (view f)))) b;
       }
 
-pub lists : (f : List ℕ) (e : Examined) → (e ≡ examined_of f) × (e.judged.verdict.number ≡ 0) → Lists f e
-lists f e p = subst (Lists f) (sym (found f e p.0 p.1)) (in-view f (accepted f e p.0 p.1))
+pub lists : (f : List ℕ) (e : Examined) → Ok e ≡ examined_of f → Lists f e
+lists f e is = subst (Lists f) (sym (found f e is)) (in-view f (accepted f e is))

@@ -6,6 +6,8 @@ use mathlib.Core.List.{List, [], ◌∷◌}
 use native.Mathlib.Nat.{zero-add}
 use native.Mathlib.Omega.{arith}
 use lib.Dec.{eqb, lit<}
+use Rattle.std.specs.Prelude.{Ok, Err}
+use Rattle.texts.specs.Told.{text_by}
 use lib.ListN.{length, get_or, drop}
 use borrow.Author.Tests.{eq-eqb, ne_eqb}
 use Rattle.paper.specs.Bytes.{run}
@@ -15,7 +17,7 @@ use Rattle.paper.specs.Judge.{view, view_at, head_in, dir_run, entries_in, verdi
 use Rattle.paper.specs.Shown.{text_entries, texts_held, text_entry}
 use Rattle.paper.specs.Outcome.{verdict}
 use Rattle.paper.specs.Layout.{entry_of}
-use Rattle.paper.specs.Calls.{answer, judged_in, text_within, text_of, metadata_text}
+use Rattle.paper.specs.Calls.{answer, text_within, text_of, metadata_text}
 use Rattle.paper.specs.declared.Entry.{Entry}
 use Rattle.paper.specs.declared.Text.{Text}
 use Rattle.paper.specs.declared.Verdict.{Verdict}
@@ -33,26 +35,23 @@ use Rattle.image.specs.Imaging.{tag_part}
 use Rattle.judge.specs.Examining.{examined_in, examined_of}
 use Rattle.judge.specs.declared.Examined.{Examined}
 use Rattle.image.proofs.Seen.{Stands}
-use Rattle.judge.proofs.Seen.{accepted, found, size, stands, present, further-stands, further-inside}
-use Rattle.texts.proofs.Entries.{verdict-is}
+use Rattle.judge.proofs.Seen.{accepted, found, refuses, size, stands, present, further-stands, further-inside}
 
 -- ---- a file that is refused
 
-pub refused : (f : List ℕ) (e : Examined) (k m : ℕ) → e ≡ examined_of f → (e.judged.verdict.number ≡ 0 → ⊥)
-    → record { verdict = e.judged.verdict; from = 0; start = 0; len = 0 } ≡ text_of f k m
+pub refused : (f : List ℕ) (v : Verdict) (k m : ℕ) → Err v ≡ examined_of f → text_by (Err v) ≡ text_of f k m
 unfolding text_of
-refused f e k m is n =
-    let v = verdict-is f e is in
-    let z : (verdict_of f).number ≡ 0 → ⊥ = λ q. n (ap (λ (x : Verdict). x.number) v ∙ q) in
-    rw v (sym (answer-bad f (text_within k m) _ z ∙ rw (ne_eqb (verdict_of f).number 0 z)))
+refused f v k m is =
+    let (v-is, z) = refuses f v is in
+    rw v-is (sym (answer-bad f (text_within k m) _ z ∙ rw (ne_eqb (verdict_of f).number 0 z)))
 
 -- ---- a file that is accepted, and m bytes outside
 
 -- what the answer for number 0 is, and that it lies where it is said to stand
 pub record Told (f : List ℕ) (e : Examined) (k m : ℕ) : Type 0 where
-  pub outside : e.metadata.start ≡ 0 → record { verdict = e.judged.verdict; from = 1; start = 0; len = m } ≡ text_of f k m
+  pub outside : e.metadata.start ≡ 0 → record { verdict = verdict 0 0; from = 1; start = 0; len = m } ≡ text_of f k m
   pub inside : (e.metadata.start ≡ 0 → ⊥)
-      → record { verdict = e.judged.verdict; from = 0; start = e.metadata.start; len = e.metadata.len } ≡ text_of f k m
+      → record { verdict = verdict 0 0; from = 0; start = e.metadata.start; len = e.metadata.len } ≡ text_of f k m
   pub within : e.metadata.start + e.metadata.len ≤ length f
 
 -- and for a number from 1 on: how many further entries there are, where they stand, and what the one asked for says
@@ -78,7 +77,7 @@ module _ (f : List ℕ) (zero : (verdict_of f).number ≡ 0) where
   stands-in = stands f zero Index.metadata (lit< tt)
 
   in-view : (m : ℕ) → Told f (examined_in (view f)) 0 m
-  unfolding examined_in judged_in tag_part text_before
+  unfolding examined_in tag_part text_before
   in-view m =
       let t = sym (answer-good f (text_before m) _ zero) ∙ text-is m in
       record {
@@ -147,15 +146,11 @@ module _ (f : List ℕ) (zero : (verdict_of f).number ≡ 0) where
             );
       })
 
-pub told : (f : List ℕ) (e : Examined) (k m : ℕ) → (e ≡ examined_of f) × (e.judged.verdict.number ≡ 0) → k ≡ 0 → Told f e k m
-told f e k m p z = rw (z, found f e p.0 p.1) (in-view f (accepted f e p.0 p.1) m)
+pub told : (f : List ℕ) (e : Examined) (k m : ℕ) → Ok e ≡ examined_of f → k ≡ 0 → Told f e k m
+told f e k m p z = rw (z, found f e p) (in-view f (accepted f e p) m)
 
-pub later : (f : List ℕ) (e : Examined) (k : ℕ) → (e ≡ examined_of f) × (e.judged.verdict.number ≡ 0) → 0 < k → Later f e k
-later f e k p l = subst (λ (x : Examined). Later f x k) (sym (found f e p.0 p.1)) (later-in f (accepted f e p.0 p.1) k l)
-
--- it lies in the file, wherever the outside text ends
-pub in-text : (t : Text) (n m : ℕ) → t.from ≡ 0 → t.start + t.len ≤ n → t.start + t.len ≤ cond (eqb t.from 0) n m
-in-text t n m z l = rw (eq-eqb t.from 0 z) l
+pub later : (f : List ℕ) (e : Examined) (k : ℕ) → Ok e ≡ examined_of f → 0 < k → Later f e k
+later f e k p l = subst (λ (x : Examined). Later f x k) (sym (found f e p)) (later-in f (accepted f e p) k l)
 
 -- what the reading of its entry asks
 pub later-asked : {f : List ℕ} {e : Examined} {k : ℕ} → Later f e k → 0 < k → {entries : List ℕ} → entries ≡ run f e.further.start (12 * e.further.many)

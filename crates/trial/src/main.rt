@@ -2,28 +2,29 @@
 #![tactic(auto)]
 
 ghost use Rattle.std.specs.Prelude.{◌≡◌, ◌<◌};
-ghost use Rattle.layout.specs.Opening.{headed_of, LaidAt};
-ghost use Rattle.layout.specs.declared.Headed.TheVariants.{Good};
+ghost use Rattle.outcomes.specs.Ruled.{ruled};
+ghost use Rattle.layout.specs.Opening.{LaidAt};
 ghost use Rattle.trial.specs.Trial.{trial_of};
 
-use lines::{LONG, NO, SHORT, TAG, WIDE, YES};
+use layout::{Cell, Directory};
+use lines::{LONG, Line, SHORT, table};
 use paper::Verdict;
 use std::io;
 
 // ---- the table
 
 // A type that the image's table does not name.
-const RATIONAL: u32 = 5;
+const RATIONAL: usize = 5;
 
-const LINES: [[u32; WIDE]; SLOTS] = [
-    [254, NO, LONG, LONG, 1, 1],
-    [256, YES, SHORT, LONG, 1, 1],
-    [282, YES, RATIONAL, RATIONAL, 1, 1],
-    [296, NO, SHORT, SHORT, 1, 1],
-    [34853, NO, LONG, LONG, 1, 1],
+const LINES: [Line; SLOTS] = table![
+    [254, Never, LONG, LONG, 1, 1],
+    [256, Always, SHORT, LONG, 1, 1],
+    [282, Always, RATIONAL, RATIONAL, 1, 1],
+    [296, Never, SHORT, SHORT, 1, 1],
+    [34853, Never, LONG, LONG, 1, 1],
 ];
 
-// The line of each tag, from 0, which is its slot in the columns too.
+// The line of each tag, from 0, which is its slot in what a pass finds too.
 const SUBFILE: usize = 0;
 
 const WIDTH: usize = 1;
@@ -37,145 +38,84 @@ const POSITION: usize = 4;
 // How many there are.
 const SLOTS: usize = 5;
 
-// The factor for which no two of them share a cell. The first of them has the cell of tag 0, so 0 may stand in all the others.
-const FACTOR: usize = 33;
+// The cell of a tag, by its slot.
+macro_rules! cell {
+    ($slot:ident) => {
+        Cell {
+            tag: LINES[$slot].tag as u16,
+            slot: $slot as u8,
+        }
+    };
+}
 
-// What stands in a cell that has none of them: a tag of another cell, and no slot.
-const NO_TAG: u16 = 0;
+// What stands in a cell that has none of them: a tag of another cell, and no slot. The first of them has the cell of tag 0, so 0 may stand in all the
+// others.
+const NO_CELL: Cell = Cell {
+    tag: 0,
+    slot: SLOTS as u8,
+};
 
-const NO_SLOT: u8 = SLOTS as u8;
+// The factor for which no two of them share a cell.
+const FACTOR: u16 = 33;
 
-const CELLS: [u16; layout::CELLS] = [
-    LINES[SUBFILE][TAG] as u16,
-    LINES[WIDTH][TAG] as u16,
-    NO_TAG,
-    NO_TAG,
-    LINES[RESOLUTION][TAG] as u16,
-    NO_TAG,
-    LINES[UNIT][TAG] as u16,
-    NO_TAG,
-    NO_TAG,
-    NO_TAG,
-    NO_TAG,
-    NO_TAG,
-    LINES[POSITION][TAG] as u16,
-    NO_TAG,
-    NO_TAG,
-    NO_TAG,
-    NO_TAG,
-    NO_TAG,
-    NO_TAG,
-    NO_TAG,
-    NO_TAG,
-    NO_TAG,
-    NO_TAG,
-    NO_TAG,
-    NO_TAG,
-    NO_TAG,
-    NO_TAG,
-    NO_TAG,
-    NO_TAG,
-    NO_TAG,
-    NO_TAG,
-    NO_TAG,
-];
-
-const CELL_SLOTS: [u8; layout::CELLS] = [
-    SUBFILE as u8,
-    WIDTH as u8,
-    NO_SLOT,
-    NO_SLOT,
-    RESOLUTION as u8,
-    NO_SLOT,
-    UNIT as u8,
-    NO_SLOT,
-    NO_SLOT,
-    NO_SLOT,
-    NO_SLOT,
-    NO_SLOT,
-    POSITION as u8,
-    NO_SLOT,
-    NO_SLOT,
-    NO_SLOT,
-    NO_SLOT,
-    NO_SLOT,
-    NO_SLOT,
-    NO_SLOT,
-    NO_SLOT,
-    NO_SLOT,
-    NO_SLOT,
-    NO_SLOT,
-    NO_SLOT,
-    NO_SLOT,
-    NO_SLOT,
-    NO_SLOT,
-    NO_SLOT,
-    NO_SLOT,
-    NO_SLOT,
-    NO_SLOT,
+const CELLS: [Cell; layout::CELLS] = [
+    cell!(SUBFILE),
+    cell!(WIDTH),
+    NO_CELL,
+    NO_CELL,
+    cell!(RESOLUTION),
+    NO_CELL,
+    cell!(UNIT),
+    NO_CELL,
+    NO_CELL,
+    NO_CELL,
+    NO_CELL,
+    NO_CELL,
+    cell!(POSITION),
+    NO_CELL,
+    NO_CELL,
+    NO_CELL,
+    NO_CELL,
+    NO_CELL,
+    NO_CELL,
+    NO_CELL,
+    NO_CELL,
+    NO_CELL,
+    NO_CELL,
+    NO_CELL,
+    NO_CELL,
+    NO_CELL,
+    NO_CELL,
+    NO_CELL,
+    NO_CELL,
+    NO_CELL,
+    NO_CELL,
+    NO_CELL,
 ];
 
 // ---- the judgement
 
-// Rules 6, 7, 9 and 10, of a file whose directory of c entries is laid at a place. No line asks whether the picture is in tiles.
-fn trial_laid(file: &[u8], big: bool, at: usize, c: usize) -> Verdict
-    requires { LaidAt file.now big at c }
-    ensures { result ≡ trial_of file.now }
+// Rules 6, 7, 9 and 10, of a file whose directory is laid at a place. No line asks whether the picture is in tiles.
+fn trial_laid(file: &[u8], d: Directory) -> Result<(), Verdict>
+    requires { LaidAt file.now d.big d.at d.count }
+    ensures { result ≡ ruled (trial_of file.now) tt }
 {
-    let n = file.len();
-    let len = 2 + 12 * c + 4;
-    let end = at + len;
-    let mut typs = [0u32; SLOTS];
-    let mut counts = [0u32; SLOTS];
-    let mut starts = [0usize; SLOTS];
-    let mut lens = [0usize; SLOTS];
-    let s = layout::scan(
-        &CELLS,
-        &CELL_SLOTS,
-        FACTOR,
-        &file[at..end],
-        big,
-        at,
-        c,
-        n,
-        &mut typs,
-        &mut counts,
-        &mut starts,
-        &mut lens,
-    );
+    let mut found = [layout::ABSENT; SLOTS];
+    let s = layout::scan(&CELLS, FACTOR, d.bytes(file), d, file.len(), &mut found);
     if s.verdict.number != 0 {
-        return s.verdict;
+        return Err(s.verdict);
     }
-    let nine = lines::needed_tags(&LINES, &starts, false);
-    let ten = lines::fitting_tags(&LINES, &typs, &counts, &starts);
-    let none = Verdict {
-        number: 0,
-        place: 0,
-    };
-    outcomes::or_else(9, nine, outcomes::or_else(10, ten, none))
-}
-
-// Rules 4 to 7, 9 and 10, of a file whose head names the place of its directory.
-fn trial_at(file: &[u8], big: bool, at: u32) -> Verdict
-    requires { headed_of file.now ≡ Good big at }
-    ensures { result ≡ trial_of file.now }
-{
-    let o = layout::open(file, big, at);
-    match o {
-        layout::Opened::Refused(number, place) => Verdict { number, place },
-        layout::Opened::Laid(c) => trial_laid(file, big, at as usize, c),
-    }
+    outcomes::rule(9, lines::needed_tags(&LINES, &found, false))?;
+    outcomes::rule(10, lines::fitting_tags(&LINES, &found))
 }
 
 // Rules 1 to 7, 9 and 10, by the trial's table.
-fn judge_trial(file: &[u8]) -> Verdict
-    ensures { result ≡ trial_of file.now }
+fn judge_trial(file: &[u8]) -> Result<(), Verdict>
+    ensures { result ≡ ruled (trial_of file.now) tt }
 {
-    let h = layout::read_head(file);
-    match h {
-        layout::Headed::Bad(number, place) => Verdict { number, place },
-        layout::Headed::Good(big, at) => trial_at(file, big, at),
-    }
+    let head = layout::read_head(file)?;
+    let d = layout::open(file, head)?;
+    trial_laid(file, d)
 }
 
 // ---- the files
@@ -197,7 +137,10 @@ const WIDTH_ALONE: [u8; 26] = *b"MM\0*\0\0\0\x08\
 
 // The line of a file: verdict and place.
 fn print_verdict(rt: &impl Print, file: &[u8]) -> io::Result<()> {
-    let v = judge_trial(file);
+    let v = judge_trial(file).err().unwrap_or(Verdict {
+        number: 0,
+        place: 0,
+    });
     println!(rt; "verdict {} place {}", v.number, v.place)
 }
 

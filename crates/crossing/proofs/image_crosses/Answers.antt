@@ -1,15 +1,17 @@
--- `image_crosses` hands the mask's list over: its columns, and then its directory. Assumes nothing.
-use Rattle.crossing.proofs.Apart.{mask-listed, mask-ends-low, columns}
-use Prim.Native.Nat.{zero-le}
-use native.Mathlib.Omega.{arith}
+-- `image_crosses` hands the mask's list over: its directory, and what was found of its tags. Assumes nothing.
+use Rattle.std.proofs.Common.{append-nil, zero-le, ◌∙◌}
+use Rattle.paper.specs.Bytes.{build}
+use Rattle.paper.specs.Tests.{keep}
+use Rattle.pieces.specs.Gaps.{named_parts}
+use Rattle.pieces.specs.Reading.{listed}
+use Rattle.crossing.specs.Pictures.{mask_list}
+use Rattle.crossing.proofs.Apart.{own-low}
 use Rattle.crossing.proofs.image_crosses.Goals as goal
 
-pub crosses_all-requires : goal.crosses_all-requires
-crosses_all-requires c =
-    let p = c.requires in
-    let l = p.2 in
-    let e = mask-ends-low l in
-    (p.0, p.1, zero-le, columns l, (zero-le, zero-le, l.starts_low, l.lens_low), (omega arith, omega arith, e.0, e.1))
+pub invariant_of-list : goal.invariant_of-list
+invariant_of-list c =
+    record { room = zero-le; low = rw (append-nil, c.put_parts.ensures, c.directory_part-parts.ensures) (own-low c.requires.2) }
 
 pub returns : goal.returns
-returns c = mask-listed _ _ _ _ _ _ _ c.crosses_all.ensures
+unfolding listed mask_list named_parts build keep
+returns c = c.clashes_all.ensures ∙ rw (append-nil, c.places.ensures, c.put_parts.ensures, c.directory_part-parts.ensures)

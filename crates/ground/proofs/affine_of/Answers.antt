@@ -1,25 +1,13 @@
--- `affine_of` meets its contract: each of the six doubles is what its call ensures. Assumes nothing.
-use borrow.Author.Rules.{rules}
-use Rattle.ground.proofs.Answers.{quad-a, quad-b, quad-d, affine-is}
+-- `affine_of` meets its contract: each answer is a law of `Runs`. Assumes nothing.
+use Rattle.std.proofs.Common.{rules}
+use Rattle.ground.proofs.Runs.{affine-refused, affine-found, affine-bad}
 use Rattle.ground.proofs.affine_of.Goals as goal
 
-pub double_of-requires : goal.double_of-requires
-double_of-requires c = search (rules, quad-a)
+pub returns-in_err-m1 : goal.returns-in_err-m1
+returns-in_err-m1 c = search (rules, affine-refused)
 
-pub double_of-requires-2 : goal.double_of-requires-2
-double_of-requires-2 c = search (rules, quad-b)
-
-pub double_of-requires-3 : goal.double_of-requires-3
-double_of-requires-3 c = search (rules, quad-d)
-
-pub double_of-requires-4 : goal.double_of-requires-4
-double_of-requires-4 c = search (rules, quad-a)
-
-pub double_of-requires-5 : goal.double_of-requires-5
-double_of-requires-5 c = search (rules, quad-b)
-
-pub double_of-requires-6 : goal.double_of-requires-6
-double_of-requires-6 c = search (rules, quad-d)
+pub returns-then-spans : goal.returns-then-spans
+returns-then-spans c = search (rules, affine-found)
 
 pub returns : goal.returns
-returns c = search (rules, affine-is)
+returns c = search (rules, affine-bad)

@@ -1,19 +1,18 @@
 -- `judge_scaled` meets its contract: each answer is a law of `Answers`. Assumes nothing.
-use borrow.Author.Rules.{rules}
-use Rattle.ground.proofs.Answers.{scale-broken, tiepoint-broken, turned, both-finite, scaled-kept}
+use Rattle.std.proofs.Common.{rules, refl}
+use Rattle.std.proofs.lemmas.Result.{err_from_is_err_and}
+use Rattle.ground.proofs.Answers.{scale-broken, tiepoint-broken, scaled-kept}
 use Rattle.ground.proofs.judge_scaled.Goals as goal
 
-pub returns-then-not-scale_kept : goal.returns-then-not-scale_kept
-returns-then-not-scale_kept c = search (rules, scale-broken)
+pub returns-in_err-sx : goal.returns-in_err-sx
+returns-in_err-sx c =
+    let p = err_from_is_err_and c.from_residual.result c.from_residual.ensures.1 in
+    rw (p.1, p.2) (search (rules, scale-broken))
 
-pub returns-then-not-finite_triple : goal.returns-then-not-finite_triple
-returns-then-not-finite_triple c = search (rules, tiepoint-broken)
-
-pub scaled_of-requires : goal.scaled_of-requires
-scaled_of-requires c = (
-  search (rules, turned),
-  both-finite _ _ _ _ c.finite_triple.ensures c.finite_triple-2.ensures c.if-not-finite_triple.false-raw,
-)
+pub returns-in_err-ti : goal.returns-in_err-ti
+returns-in_err-ti c =
+    let p = err_from_is_err_and c.from_residual-in_err-ti.result c.from_residual-in_err-ti.ensures.1 in
+    rw (p.1, p.2) (search (rules, tiepoint-broken))
 
 pub returns : goal.returns
-returns c = search (rules, scaled-kept)
+returns c = scaled-kept _ _ _ _ c.requires c.in_ok-sx.field-0 (search rules) c.in_ok-ti.field-0 (search rules) _ _ refl c.placed.ensures

@@ -1,5 +1,5 @@
 -- `placed` meets its contract: the corners are finite, or rule 22 is broken. Assumes nothing.
-use borrow.Author.Rules.{rules}
+use Rattle.std.proofs.Common.{rules}
 use Rattle.ground.proofs.Answers.{corners-kept, corners-broken}
 use Rattle.ground.proofs.placed.Goals as goal
 

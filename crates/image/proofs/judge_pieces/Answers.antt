@@ -1,30 +1,30 @@
--- `judge_pieces` hands the runs of the pieces and the columns' parts to the pass over the places. Assumes nothing.
+-- `judge_pieces` hands the runs of the pieces and the parts of what was found to the pass over the places. Assumes nothing.
 use native.Mathlib.Omega.{arith}
+use Rattle.pieces.specs.Reading.{pieces_in, listed}
 use Rattle.tags.proofs.Slots.{in_image}
-use Rattle.tags.proofs.Answers.{later-holds}
-use Rattle.image.proofs.Placing.{slot-within, places-asked, pieces-seen}
+use Rattle.tags.proofs.Answers.{later-holds, later_lent}
+use Rattle.image.proofs.Placing.{slot-within, offsets-room, byte-counts-room, few, outer-low, pieces-seen}
 use Rattle.image.proofs.judge_pieces.Goals as goal
 
-pub value-offsets-requires : goal.value-offsets-requires
-value-offsets-requires c = slot-within c.requires _ (in_image c.offsets_slot-a.ensures.1)
+pub value-requires : goal.value-requires
+value-requires c = search (slot-within, in_image)
 
-pub value-bytecounts-requires : goal.value-bytecounts-requires
-value-bytecounts-requires c = slot-within c.requires _ (in_image c.byte_counts_slot-b.ensures.1)
+pub value-requires-2 : goal.value-requires-2
+value-requires-2 c = search (slot-within, in_image)
 
-pub outer-outerstarts-requires : goal.outer-outerstarts-requires
-outer-outerstarts-requires c = (in_image c.offsets_slot-a.ensures.1, in_image c.byte_counts_slot-b.ensures.1)
+pub invariant_of-places : goal.invariant_of-places
+invariant_of-places c =
+    record {
+      few = search few;
+      offsets_room = rw c.value.ensures (search offsets-room);
+      byte_counts_room = rw c.value-2.ensures (search byte-counts-room);
+    }
 
-pub overflow_mul-c : goal.overflow_mul-c
-overflow_mul-c c = let f = c.requires.passed.ready.few in omega arith
-
-pub overflow_add-c : goal.overflow_add-c
-overflow_add-c c = let f = c.requires.passed.ready.few in omega arith
-
-pub overflow_add-c-2 : goal.overflow_add-c-2
-overflow_add-c-2 c = let f = c.requires.passed.ready.few in omega arith
-
-pub outer-outerlens-requires : goal.outer-outerlens-requires
-outer-outerlens-requires c = (in_image c.offsets_slot-a.ensures.1, in_image c.byte_counts_slot-b.ensures.1)
+pub invariant_of-list : goal.invariant_of-list
+invariant_of-list c =
+    let p = c.requires.passed in
+    let w = p.ready.whole in
+    record { room = (later_lent p.ready p.behind c.value-3.ensures).0; low = rw c.outer-parts.ensures (search (outer-low, in_image, arith)) }
 
 pub overflow_mul-further : goal.overflow_mul-further
 overflow_mul-further c =
@@ -32,17 +32,11 @@ overflow_mul-further c =
     let l = (later-holds p.ready p.behind).few in
     omega arith
 
-pub value-later-requires : goal.value-later-requires
-value-later-requires c =
+pub value-requires-3 : goal.value-requires-3
+value-requires-3 c =
     let p = c.requires.passed in
     (later-holds p.ready p.behind).room
 
-pub judge_places-requires : goal.judge_places-requires
-judge_places-requires c =
-    places-asked c.requires c.offsets_slot-a.ensures.0 c.byte_counts_slot-b.ensures.0 c.value-offsets.ensures c.value-bytecounts.ensures
-    c.outer-outerstarts.ensures c.outer-outerlens.ensures c.counted.ensures c.value-later.ensures
-
 pub returns : goal.returns
-returns c =
-    pieces-seen c.requires c.offsets_slot-a.ensures.0 c.byte_counts_slot-b.ensures.0 c.value-offsets.ensures c.value-bytecounts.ensures
-    c.outer-outerstarts.ensures c.outer-outerlens.ensures c.counted.ensures c.value-later.ensures _ c.judge_places.ensures
+unfolding pieces_in listed
+returns c = let r = rw (c.value.ensures, c.value-2.ensures) at c.judge_places.ensures in search (pieces-seen, r)

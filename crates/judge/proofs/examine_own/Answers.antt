@@ -1,51 +1,45 @@
 -- `examine_own` asks for the image, then for the survey of the values that the image names. Assumes nothing.
-use mathlib.Core.Path.{◌∙◌}
+use mathlib.Core.Path.{refl}
+use Rattle.std.proofs.lemmas.Result.{err_from_is_err_and}
 use Rattle.judge.proofs.Examining.{directory-named, doubles-named, characters-named, scale-named, tiepoint-named, matrix-named}
 use Rattle.judge.proofs.Examining.{image-bad, runs-sized, survey-bad, both-good}
 use Rattle.judge.proofs.examine_own.Goals as goal
 
-pub returns-then-i-ne0 : goal.returns-then-i-ne0
-returns-then-i-ne0 c = c.refused_own.ensures ∙ image-bad _ c.judge_image-i.ensures c.if-i-ne0.true
+pub returns-in_err-i : goal.returns-in_err-i
+returns-in_err-i c =
+    let p = err_from_is_err_and c.from_residual.result c.from_residual.ensures.1 in
+    rw (p.1, p.2) (image-bad _ (c.in_err-i.ensures {u = tt}))
 
 pub value-requires : goal.value-requires
-value-requires c =
-    (directory-named _ c.judge_image-i.ensures c.if-i-ne0.false).within
+value-requires c = (directory-named _ c.in_ok-i.ensures).within
 
 pub value-requires-2 : goal.value-requires-2
-value-requires-2 c =
-    (doubles-named _ c.judge_image-i.ensures c.if-i-ne0.false).within
+value-requires-2 c = (doubles-named _ c.in_ok-i.ensures).within
 
 pub value-requires-3 : goal.value-requires-3
-value-requires-3 c =
-    (characters-named _ c.judge_image-i.ensures c.if-i-ne0.false).within
+value-requires-3 c = (characters-named _ c.in_ok-i.ensures).within
 
 pub value-requires-4 : goal.value-requires-4
-value-requires-4 c =
-    (scale-named _ c.judge_image-i.ensures c.if-i-ne0.false).within
+value-requires-4 c = (scale-named _ c.in_ok-i.ensures).within
 
 pub value-requires-5 : goal.value-requires-5
-value-requires-5 c =
-    (tiepoint-named _ c.judge_image-i.ensures c.if-i-ne0.false).within
+value-requires-5 c = (tiepoint-named _ c.in_ok-i.ensures).within
 
 pub value-requires-6 : goal.value-requires-6
-value-requires-6 c =
-    (matrix-named _ c.judge_image-i.ensures c.if-i-ne0.false).within
+value-requires-6 c = (matrix-named _ c.in_ok-i.ensures).within
 
-pub judge_survey-j-requires : goal.judge_survey-j-requires
-judge_survey-j-requires c =
-    runs-sized _ c.judge_image-i.ensures c.if-i-ne0.false
-    c.value.ensures c.value-2.ensures c.value-3.ensures
-    c.value-4.ensures c.value-5.ensures c.value-6.ensures
+pub judge_survey-requires : goal.judge_survey-requires
+judge_survey-requires c =
+    runs-sized _ c.in_ok-i.ensures c.value.ensures c.value-2.ensures c.value-3.ensures c.value-4.ensures c.value-5.ensures c.value-6.ensures
 
-pub returns-then-j-ne0 : goal.returns-then-j-ne0
-returns-then-j-ne0 c =
-    c.refused_own-then-j-ne0.ensures
-    ∙ survey-bad _ c.judge_image-i.ensures c.if-i-ne0.false
-    c.value.ensures c.value-2.ensures c.value-3.ensures
-    c.value-4.ensures c.value-5.ensures c.value-6.ensures c.judge_survey-j.ensures c.if-j-ne0.true
+pub returns-in_err-surveyed : goal.returns-in_err-surveyed
+returns-in_err-surveyed c =
+    let p = err_from_is_err_and c.from_residual-in_err-surveyed.result c.from_residual-in_err-surveyed.ensures.1 in
+    rw (p.1, p.2)
+    (survey-bad _ c.in_ok-i.ensures c.value.ensures c.value-2.ensures c.value-3.ensures c.value-4.ensures c.value-5.ensures c.value-6.ensures refl
+    (c.in_err-surveyed.ensures {u = tt}))
 
 pub returns : goal.returns
 returns c =
-    both-good _ c.judge_image-i.ensures c.if-i-ne0.false
-    c.value.ensures c.value-2.ensures c.value-3.ensures
-    c.value-4.ensures c.value-5.ensures c.value-6.ensures c.judge_survey-j.ensures c.if-j-ne0.false
+    both-good _ c.in_ok-i.ensures c.value.ensures c.value-2.ensures c.value-3.ensures c.value-4.ensures c.value-5.ensures c.value-6.ensures refl
+    c.in_ok-surveyed.ensures

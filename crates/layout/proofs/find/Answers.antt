@@ -1,5 +1,4 @@
--- `find` passes over the tags from the first to the last; its turns are laws of `Plain`. Assumes nothing.
-use native.Mathlib.Omega.{arith}
+-- `find` passes over the entries from the first to the last; its turns are laws of `Plain`. Assumes nothing.
 use Rattle.layout.proofs.Plain.{seek-start, seek_found, seek-more, seek-none}
 use Rattle.layout.proofs.find.Goals as goal
 
@@ -7,10 +6,10 @@ pub loop-i-init : goal.loop-i-init
 loop-i-init c = seek-start
 
 pub returns-then-short-tag : goal.returns-then-short-tag
-returns-then-short-tag c = (seek_found c.loop-i.invariant c.loop-i-test.true c.short.ensures.0 c.if-short-tag.true, omega arith)
+returns-then-short-tag c = search seek_found
 
 pub loop-i-preserved : goal.loop-i-preserved
 loop-i-preserved c = search seek-more
 
 pub returns : goal.returns
-returns c = (seek-none c.loop-i.invariant c.loop-i-test.false, omega arith)
+returns c = search seek-none

@@ -3,4 +3,4 @@ use Rattle.layout.proofs.Plain.{conclusion}
 use Rattle.layout.proofs.judge_entries.Goals as goal
 
 pub returns : goal.returns
-returns c = conclusion _ _ _ _ _ _ c.order_again-o.ensures c.judge_values-seven.ensures.0 c.conclude.ensures
+returns c = conclusion _ _ _ _ _ _ c.order_again.ensures c.judge_values.ensures c.conclude.ensures

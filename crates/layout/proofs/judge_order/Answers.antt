@@ -1,7 +1,10 @@
 -- `judge_order` knows rule 6 from the tags' ascent, or makes the pass that counts. Assumes nothing.
-use borrow.Author.Rules.{rules}
+use mathlib.Core.Path.{sym, ◌∙◌}
 use Rattle.layout.proofs.Ordering.{order-known}
 use Rattle.layout.proofs.judge_order.Goals as goal
 
-pub returns-then-six-ne-METADATA : goal.returns-then-six-ne-METADATA
-returns-then-six-ne-METADATA c = search (rules, order-known, c.if-six-ne-METADATA.true)
+pub returns-else-place-eq-METADATA : goal.returns-else-place-eq-METADATA
+returns-else-place-eq-METADATA c = order-known _ _ (sym c.in-Broken.is ∙ c.requires.1) (λ e. c.if-place-eq-METADATA.false cc)
+
+pub returns-in_default : goal.returns-in_default
+returns-in_default c = order-known _ _ c.requires.1 (c.in_default.not-Broken _)

@@ -1,21 +1,37 @@
 -- `order_again` passes over the tags from the last to the first; its turns are laws of `Ordering`. Assumes nothing.
-use Rattle.layout.proofs.Ordering.{count-start, count-text, count-other, second, count_none, count-some}
+use mathlib.Core.Path.{◌≡◌, refl, ◌∙◌}
+use mathlib.Core.Bool.{cond}
+use Rattle.paper.specs.declared.Outcome.TheVariants.{Broken as broken}
+use Rattle.layout.proofs.Ordering.{count-start, count-text, count-other, count_broken, count_few, count-some}
 use Rattle.layout.proofs.order_again.Goals as goal
+use Rattle.layout.proofs.order_again.Goals.{then-is_out_of_order, else-is_out_of_order}
 
 pub loop-i-init : goal.loop-i-init
 loop-i-init c = search count-start
 
 pub loop-i-preserved-then-tag-eq-METADATA : goal.loop-i-preserved-then-tag-eq-METADATA
-loop-i-preserved-then-tag-eq-METADATA c = search count-text
+loop-i-preserved-then-tag-eq-METADATA c =
+    let broke : c.if-is_out_of_order.six ≡ cond c.is_out_of_order.result (broken c.loop-i.next) c.loop-i.six =
+    elim c.if-is_out_of_order.branch [
+      | then-is_out_of_order w ↦ w.six-is ∙ rw w.if-is_out_of_order.true refl
+      | else-is_out_of_order w ↦ w.six-is ∙ rw w.if-is_out_of_order.false refl
+    ] in
+    search (count-text, broke)
 
 pub loop-i-preserved : goal.loop-i-preserved
-loop-i-preserved c = search (count-other, c.if-tag-eq-METADATA.false)
+loop-i-preserved c =
+    let broke : c.if-is_out_of_order.six ≡ cond c.is_out_of_order.result (broken c.loop-i.next) c.loop-i.six =
+    elim c.if-is_out_of_order.branch [
+      | then-is_out_of_order w ↦ w.six-is ∙ rw w.if-is_out_of_order.true refl
+      | else-is_out_of_order w ↦ w.six-is ∙ rw w.if-is_out_of_order.false refl
+    ] in
+    search (count-other, broke, c.if-tag-eq-METADATA.false)
 
-pub returns-then-six-many : goal.returns-then-six-many
-returns-then-six-many c = search count_none
+pub returns-then-many-gt1 : goal.returns-then-many-gt1
+returns-then-many-gt1 c = count-some c.loop-i.invariant c.loop-i-test.false c.in-Kept.is c.if-many-gt1.true
 
-pub overflow_sub-result : goal.overflow_sub-result
-overflow_sub-result c = search second
+pub returns-else-many-gt1 : goal.returns-else-many-gt1
+returns-else-many-gt1 c = count_few c.loop-i.invariant c.loop-i-test.false c.if-many-gt1.false
 
-pub returns : goal.returns
-returns c = search count-some
+pub returns-in_default : goal.returns-in_default
+returns-in_default c = count_broken c.loop-i.invariant c.loop-i-test.false c.in_default.is

@@ -3,7 +3,4 @@ use Rattle.layout.proofs.Ordering.{Counting}
 use Rattle.layout.proofs.order_again.Given as goal
 
 abbrev pub invariant-loop-i : goal.invariant-loop-i
-invariant-loop-i l = Counting l.big l.at l.c l.dir l.i l.six l.next l.first l.many
-
-abbrev pub decreases-loop-i : goal.decreases-loop-i
-decreases-loop-i l = l.i
+invariant-loop-i l = Counting l.d.big l.d.at l.d.count l.dir l.i l.six l.next l.first l.many

@@ -5,9 +5,4 @@ use Rattle.layout.proofs.Turns.{Passing}
 use Rattle.layout.proofs.scan.Given as goal
 
 abbrev pub invariant-loop-i : goal.invariant-loop-i
-invariant-loop-i l =
-    Passing l.n l.big l.at l.c l.dir l.i l.six l.seven l.next (slot_tags l.cells l.slots (length l.initial.typs)) l.typs l.counts l.starts l.lens
-
-abbrev pub decreases-loop-i : goal.decreases-loop-i
-decreases-loop-i l =
-    l.i
+invariant-loop-i l = Passing l.n l.d.big l.d.at l.d.count l.dir l.i l.six l.seven l.next (slot_tags l.cells (length l.initial.found)) l.found

@@ -1,12 +1,13 @@
--- `gather` fills the columns slot by slot; its turns are laws of `Gathered`. Assumes nothing.
-use Prim.Native.Nat.{◌-◌}
-use Rattle.lines.proofs.Gathered.{Gathering}
+-- `gather` finds the entry of each line's tag, one after the other; what is found of all is said by laws of `Gathered`. Assumes nothing.
+use Prim.Native.Nat.{ℕ, ◌<◌}
+use mathlib.Core.Path.{◌≡◌}
+use lib.ListN.{get_or}
+use Rattle.paper.specs.Layout.{entries}
+use Rattle.paper.specs.declared.Entry.{Entry}
+use Rattle.layout.specs.Columns.{firsts}
+use Rattle.lines.specs.Lined.{row_tags}
 use Rattle.lines.proofs.gather.Given as goal
 
 abbrev pub invariant-loop-k : goal.invariant-loop-k
 invariant-loop-k l =
-    Gathering l.lines l.big l.at l.c l.dir l.k l.typs l.counts l.starts l.lens
-
-abbrev pub decreases-loop-k : goal.decreases-loop-k
-decreases-loop-k l =
-    l.many - l.k
+    (i : ℕ) (e : Entry) → i < l.k → get_or l.found i e ≡ get_or (firsts (row_tags l.lines) (entries l.d.big l.d.at l.d.count l.dir)) i e

@@ -1,9 +1,6 @@
 -- `has_misfit` looks at the entries one after the other; its turns are laws of `Later`. Assumes nothing.
-use Rattle.lines.proofs.Later.{fine-start, fine-bad, fine_more, fine_end}
+use Rattle.lines.proofs.Later.{fine-bad, fine_more, fine_end}
 use Rattle.lines.proofs.has_misfit.Goals as goal
-
-pub loop-j-init : goal.loop-j-init
-loop-j-init c = fine-start
 
 pub returns-then-is_unlike : goal.returns-then-is_unlike
 returns-then-is_unlike c = search fine-bad

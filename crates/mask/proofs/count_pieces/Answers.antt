@@ -1,17 +1,8 @@
 -- `count_pieces` is the number of strips, or the tiles across times the tiles down; no product of the two is too large. Assumes nothing.
 use Rattle.tags.proofs.Values.{product-fits}
-use Rattle.mask.specs.Values.{pieces_by}
 use Rattle.mask.proofs.count_pieces.Goals as goal
 
 pub overflow_mul-result : goal.overflow_mul-result
 overflow_mul-result c =
     let n = c.requires in
     product-fits c.rounded_up.ensures.1 n.width_high c.rounded_up-then-tiled.ensures.1 n.length_high
-
-pub returns-then-tiled : goal.returns-then-tiled
-unfolding pieces_by
-returns-then-tiled c = rw (c.if-tiled.true, c.rounded_up.ensures.0, c.rounded_up-then-tiled.ensures.0)
-
-pub returns : goal.returns
-unfolding pieces_by
-returns c = rw c.if-tiled.false c.rounded_up-2.ensures.0

@@ -4,5 +4,5 @@ use Rattle.rows.specs.declared.Lent.{Lent}
 use Rattle.rows.proofs.Counting.{few}
 use Rattle.report.proofs.print.Goals as goal
 
-pub print_rows-requires : goal.print_rows-requires
-print_rows-requires g c = subst (λ (x : Lent). x.counted.keys ≤ 256) (sym c.lend-lent.ensures) (few c.args.file.now 256)
+pub shared_ref_as_front-rows : goal.shared_ref_as_front-rows
+shared_ref_as_front-rows g c = subst (λ (x : Lent). x.counted.keys ≤ 256) (sym c.lend-lent.ensures) (few c.args.file.now 256)

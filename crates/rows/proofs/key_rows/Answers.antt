@@ -4,10 +4,10 @@ use Rattle.rows.specs.declared.Planned.{Planned}
 use Rattle.rows.proofs.Counting.{writes}
 use Rattle.rows.proofs.key_rows.Goals as goal
 
-pub write-requires : goal.write-requires
-write-requires c = let w = writes c.args.file.now c.args.rows.now in rw c.count-p.ensures (w.lent, w.fits)
+pub fill-requires : goal.fill-requires
+fill-requires c = let w = writes c.args.file.now c.args.rows.now in rw c.count-p.ensures (w.lent, w.fits)
 
 pub returns : goal.returns
 returns c =
     let w = writes c.args.file.now c.args.rows.now in
-    (ap (λ (p : Planned). p.counted) c.count-p.ensures, rw c.count-p.ensures at c.write.ensures ∙ sym w.left)
+    (ap (λ (p : Planned). p.counted) c.count-p.ensures, rw c.count-p.ensures at c.fill.ensures ∙ sym w.left)

@@ -5,16 +5,14 @@ use Rattle.rows.proofs.row_of.Goals as goal
 pub value-directory-requires : goal.value-directory-requires
 value-directory-requires c =
     let a = c.args in
-    (asked a.file.now a.plan a.i c.requires.2).within
+    (asked a.file.now a.plan a.i c.requires).within
 
 pub row-requires : goal.row-requires
 row-requires c =
     let a = c.args in
-    let p = c.requires in
-    let q = asked a.file.now a.plan a.i p.2 in
-    rw c.value-directory.ensures (p.0, p.1, q.asks)
+    rw c.value-directory.ensures (asked a.file.now a.plan a.i c.requires).asks
 
 pub returns : goal.returns
 returns c =
     let a = c.args in
-    made a.file.now a.plan a.i c.requires.2 _ c.value-directory.ensures _ c.row.ensures
+    made a.file.now a.plan a.i c.requires _ c.value-directory.ensures _ c.row.ensures

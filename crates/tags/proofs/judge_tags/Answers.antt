@@ -1,11 +1,11 @@
--- `judge_tags` is rules 27 and 9 to 12: each stops at its first broken line (`Answers`). That the rows of the code say what the paper's table says is
--- computed here, by `refl`. Assumes nothing.
-use mathlib.Core.Path.{refl}
+-- `judge_tags` is rules 27 and 9 to 12: each stops at its first broken line (`Answers`). Assumes nothing.
 use native.Mathlib.Omega.{arith}
 use lib.Dec.{lit<}
+use Rattle.std.proofs.lemmas.Result.{err_from_is_err_and}
 use Rattle.paper.specs.Tags.{table}
+use Rattle.outcomes.proofs.Ruled.{rule-kept}
 use Rattle.lines.specs.Rows.{needed_by}
-use Rattle.lines.specs.Lined.{says, all_say}
+use Rattle.lines.specs.Lined.{says}
 use Rattle.tags.specs.Slots.{line_at}
 use Rattle.tags.proofs.Slots.{lined}
 use Rattle.tags.proofs.Answers.{refused-mixed, refused-nine, refused-ten, later-holds, later_lent, refused-later, fitting}
@@ -14,17 +14,16 @@ use Rattle.tags.proofs.judge_tags.Goals as goal
 pub returns-then-is_mixed : goal.returns-then-is_mixed
 returns-then-is_mixed c = search refused-mixed
 
-pub returns-in-Broken : goal.returns-in-Broken
-unfolding needed_by says all_say table
-returns-in-Broken c =
-    refused-nine c.requires.0 c.has_strips.ensures c.has_tiles-tiled.ensures c.is_mixed.ensures c.if-is_mixed.false
-    (lined _ refl) c.needed_tags-nine.ensures c.in-Broken.is c.refused-in-Broken.ensures
+pub returns-in_err-rule : goal.returns-in_err-rule
+returns-in_err-rule c =
+    let p = err_from_is_err_and c.from_residual.result c.from_residual.ensures.1 in
+    rw (p.1, p.2) (search (refused-nine, lined, c.in_err-rule.ensures {u = tt}))
 
-pub returns-in-Broken-ten : goal.returns-in-Broken-ten
-unfolding needed_by says all_say table
-returns-in-Broken-ten c =
-    refused-ten c.requires.0 c.has_strips.ensures c.has_tiles-tiled.ensures c.is_mixed.ensures c.if-is_mixed.false
-    (lined _ refl) c.needed_tags-nine.ensures c.in_default.is c.fitting_tags-ten.ensures c.requires.1 c.in-Broken-ten.is c.refused-in-Broken-ten.ensures
+pub returns-in_err-rule-2 : goal.returns-in_err-rule-2
+returns-in_err-rule-2 c =
+    let p = err_from_is_err_and c.from_residual-in_err-rule-2.result c.from_residual-in_err-rule-2.ensures.1 in
+    let k = rule-kept 9 _ (lit< tt) _ c.in_ok-rule.ensures in
+    rw (p.1, p.2) (search (refused-ten, lined, k, c.in_err-rule-2.ensures {u = tt}))
 
 pub overflow_mul-further : goal.overflow_mul-further
 overflow_mul-further c =
@@ -40,19 +39,18 @@ value-later-requires c =
 pub has_misfit-requires : goal.has_misfit-requires
 has_misfit-requires c =
     let p = c.requires in
-    let l = later_lent p.0 p.1 c.value-later.ensures in
-    (lit< tt, l.0, l.1)
+    later_lent p.0 p.1 c.value-later.ensures
 
 pub returns-then-has_misfit : goal.returns-then-has_misfit
-unfolding needed_by says all_say table line_at
+unfolding line_at table says needed_by
 returns-then-has_misfit c =
-    refused-later c.requires.0 c.has_strips.ensures c.has_tiles-tiled.ensures c.is_mixed.ensures c.if-is_mixed.false
-    (lined _ refl) c.needed_tags-nine.ensures c.in_default.is c.fitting_tags-ten.ensures c.requires.1
-    c.in_default-ten.is c.value-later.ensures _ refl c.has_misfit.ensures c.if-has_misfit.true c.refused-then-has_misfit.ensures
+    let k = rule-kept 9 _ (lit< tt) _ c.in_ok-rule.ensures in
+    let l = rule-kept 10 _ (lit< tt) _ c.in_ok-rule-2.ensures in
+    search (refused-later, lined, k, l)
 
 pub judge_values-requires : goal.judge_values-requires
-unfolding needed_by says all_say table line_at
+unfolding line_at table says needed_by
 judge_values-requires c =
-    fitting c.requires.0 c.has_strips.ensures c.has_tiles-tiled.ensures c.is_mixed.ensures c.if-is_mixed.false
-    (lined _ refl) c.needed_tags-nine.ensures c.in_default.is c.fitting_tags-ten.ensures c.requires.1
-    c.in_default-ten.is c.value-later.ensures _ refl c.has_misfit.ensures c.if-has_misfit.false
+    let k = rule-kept 9 _ (lit< tt) _ c.in_ok-rule.ensures in
+    let l = rule-kept 10 _ (lit< tt) _ c.in_ok-rule-2.ensures in
+    search (fitting, lined, k, l)

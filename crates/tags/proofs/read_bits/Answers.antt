@@ -9,7 +9,6 @@ pub loop-i-init : goal.loop-i-init
 loop-i-init c =
     let some = c.requires.0 in
     let first = c.short-first.ensures.0 in (
-      omega arith,
       so_far_more some first c.is_depth-allowed.ensures so-far-none,
       so_far_more some first (sym (eq-eqb c.short-first.result c.short-first.result refl)) so-far-none,
     )
@@ -18,12 +17,12 @@ pub loop-i-preserved : goal.loop-i-preserved
 loop-i-preserved c =
     let l = c.loop-i.invariant in
     let more = c.loop-i-test.true in (
-      omega arith,
-      so_far_more more c.short-v.ensures.0 c.is_depth-allowed-in-loop-i.ensures l.1,
-      so_far_more more c.short-v.ensures.0 refl l.2,
+      so_far_more more c.short-v.ensures.0 c.is_depth-allowed-in-loop-i.ensures l.0,
+      so_far_more more c.short-v.ensures.0 refl l.1,
     )
 
 pub returns : goal.returns
 returns c =
     let l = c.loop-i.invariant in
-    bits-read c.loop-i-test.false l.0 c.short-first.ensures.0 l.1 l.2
+    let some = c.requires.0 in
+    bits-read c.loop-i-test.false (omega arith) c.short-first.ensures.0 l.0 l.1

@@ -1,5 +1,4 @@
 -- `read_bits` tells of the values of 258 the first, whether all are allowed, and whether all are the first: at each turn of those before i. Assumes nothing.
-use Prim.Native.Nat.{◌-◌, ◌≤◌}
 use lib.Dec.{eqb}
 use Rattle.paper.specs.Tests.{allows}
 use Rattle.tags.specs.Numbers.{depths}
@@ -7,7 +6,4 @@ use Rattle.tags.proofs.Values.{SoFar}
 use Rattle.tags.proofs.read_bits.Given as goal
 
 abbrev pub invariant-loop-i : goal.invariant-loop-i
-invariant-loop-i l = (l.i ≤ l.k) × SoFar l.part l.big l.k (allows depths) l.i l.allowed × SoFar l.part l.big l.k (eqb l.first) l.i l.same
-
-abbrev pub decreases-loop-i : goal.decreases-loop-i
-decreases-loop-i l = l.k - l.i
+invariant-loop-i l = SoFar l.part l.big l.k (allows depths) l.i l.allowed × SoFar l.part l.big l.k (eqb l.first) l.i l.same

@@ -1,5 +1,4 @@
--- `find_key` is the paper's search among the key entries: at each turn what the entries from i on give is what all give, `Sought`. Assumes nothing.
-use Prim.Native.Nat.{◌-◌, ◌≤◌}
+-- `find_key` is a search among the key entries: at each turn what the entries from i on give is what all give, `Sought`. Assumes nothing.
 use mathlib.Core.List.{[]}
 use Rattle.paper.specs.Keys.{key_at}
 use Rattle.keys.specs.Pass.{runs}
@@ -7,7 +6,4 @@ use Rattle.texts.proofs.Sought.{Sought}
 use Rattle.texts.proofs.find_key.Given as goal
 
 abbrev pub invariant-loop-i : goal.invariant-loop-i
-invariant-loop-i l = (l.i ≤ l.count) × Sought l.key (key_at (runs l.big l.directory [] [])) l.count l.i
-
-abbrev pub decreases-loop-i : goal.decreases-loop-i
-decreases-loop-i l = l.count - l.i
+invariant-loop-i l = Sought l.key (key_at (runs l.big l.directory [] [])) l.count l.i

@@ -1,0 +1,2 @@
+-- The definitions of this crate, file by file. Assumes nothing.
+pub mod Told
