@@ -8,7 +8,7 @@ ghost use Rattle.report.specs.Printed.{answer_of};
 use std::io;
 use std::io::{Read, Write};
 
-// The answer to what stands in a reader.
+// The answer to what stands in a reader. `vectors` has it with a name in front: each program is proved by itself, and `longest_file_too_long` is an error of this one.
 fn judge<R: Read, W: Write>(out: &mut W, input: &mut R) -> io::Result<()>
     ensures { OnOk result (IfSome (R.remaining input.old) (λ xs. Appends (W.contents out.old) (W.contents out.new) (answer_of [] xs))) }
 {

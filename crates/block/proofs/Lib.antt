@@ -5,6 +5,6 @@ pub mod WrittenRead
 pub mod Writing
 pub mod Turns
 pub mod Measuring
+pub mod Laid
 pub mod Whole
-pub mod Answers
 pub mod Accepted

@@ -1,28 +1,27 @@
 -- One turn of each loop that writes: the bytes of a number, the elements of a value, the values of the entries at a location, and the entries
--- with their new indexes. Assumes nothing.
+-- with their new indexes. What is still to be laid from one place of the loop on is what the turn lays, and then what is to be laid from the next one on.
+-- Assumes nothing.
 use Prim.Native.Nat.{ℕ, zero, suc, ◌+◌, ◌-◌, ◌*◌, ◌/◌, ◌%◌, ◌^◌, ◌≤◌, ◌<◌}
-use mathlib.Core.Path.{◌≡◌, refl, sym, ap, ◌∙◌, subst}
+use mathlib.Core.Path.{◌≡◌, refl, sym, ap, ◌∙◌}
 use mathlib.Core.Bool.{Bool, true, false}
-use mathlib.Core.List.{List, [], ◌∷◌, ◌++◌, append_assoc}
-use mathlib.Core.Logic.{inl, inr}
-use native.Mathlib.Nat.{not-suc-le-zero, le_of_suc-le-suc, div-div-eq-div-mul, div-one, pow-suc, sub-zero, mul-suc, mul-zero, mul-le-mul_left}
-use native.Mathlib.Numerals.{add-one}
+use mathlib.Core.List.{List, [], ◌∷◌, ◌++◌, append_assoc, append-nil}
+use native.Mathlib.Nat.{not-suc-le-zero, le_of_suc-le-suc, div-div-eq-div-mul, div-one, pow-suc, sub-zero}
 use native.Mathlib.Omega.{arith}
 use lib.ListN.{length, take, drop, get_or, length-append}
-use borrow.Author.Tests.{eq-eqb, ne_eqb}
 use borrow.Rule.Slice.PartMut.{put_mid}
 use Rattle.std.specs.Int.{byte_at, bytes_low_first}
 use Rattle.paper.specs.Bytes.{num, enc, build, elems}
 use Rattle.paper.specs.Keys.{key_at}
-use Rattle.paper.specs.Block.{joined, encs, elements, values_at, count_if_at, new_index, with_index, moved, entry_numbers}
+use Rattle.paper.specs.Block.{joined, encs, values_at, count_if_at, new_index, moved, entry_numbers}
 use Rattle.paper.specs.declared.KeyEntry.{KeyEntry}
-use Rattle.paper.proofs.Laws.{length-enc, build-step, length-build}
-use Rattle.paper.proofs.Codec.{length-encs, num-drop, length_elems, length-values, length_moved}
+use Rattle.paper.proofs.Laws.{length-enc, build-step}
+use Rattle.paper.proofs.Loops.{build-end}
+use Rattle.paper.proofs.Codec.{length-encs, num-drop, length-values}
 use Rattle.keys.specs.Pass.{runs}
-use Rattle.block.specs.Splice.{splice, Wide, entries_of, entry_bytes, value_bytes}
+use Rattle.block.specs.Splice.{splice, entry_bytes, value_bytes}
 use Rattle.block.specs.Sizes.{nothing, next_of}
 use Rattle.block.specs.declared.Before.{Before}
-use Rattle.block.proofs.Writing.{Writing, begin, told, lay, end, written-over, splice-nil}
+use Rattle.block.proofs.Writing.{splice_nil, splice_behind, written-over}
 
 -- ---- the bytes of a number
 
@@ -40,38 +39,33 @@ low_bytes i (suc k) (suc w) n h = λ j. byte i j ∷ (low_bytes (suc i) k w n (l
     next : (m : ℕ) → n / 256 ^ suc m ≡ n / 256 ^ m / 256
     next m = ap (λ (p : ℕ). n / p) (pow-suc 256 m) ∙ sym (div-div-eq-div-mul n (256 ^ m) 256)
 
-pub bytes-laid : (d : List ℕ) (at w v : ℕ) → w ≤ 8 → (out : List ℕ) → out ≡ take w (bytes_low_first 0 8 v)
-    → put_mid at (at + w - at) d out ≡ splice d at (enc w v)
-bytes-laid d at w v h out is =
-    let e : out ≡ enc w v = is ∙ low_bytes 0 8 w v h ∙ ap (enc w) (div-one v) in
-    ap (put_mid at (at + w - at) d) e ∙ written-over d at w (enc w v) (length-enc w v)
+pub bytes_laid : (d : List ℕ) (at w v : ℕ) → w ≤ 8 → put_mid at (at + w - at) d (take w (bytes_low_first 0 8 v)) ≡ splice d at (enc w v)
+bytes_laid d at w v h =
+    ap (put_mid at (at + w - at) d) (low_bytes 0 8 w v h ∙ ap (enc w) (div-one v)) ∙ written-over d at w (enc w v) (length-enc w v)
 
--- ---- a number as it is read
-
--- a width is 8 at most
-pub most : (w : ℕ) → Wide w → w ≤ 8
-most w (inl h) = omega arith
-most w (inr (inl h)) = omega arith
-most w (inr (inr h)) = omega arith
-
-pub byte-is : (big : Bool) (w : ℕ) (s : List ℕ) (at b : ℕ) → w ≡ 1 → b ≡ get_or s at 0 → b ≡ num big w s at
+-- a number of one byte
+pub one_byte : (big : Bool) (s : List ℕ) (at : ℕ) → num big 1 s at ≡ get_or s at 0
 unfolding num
-byte-is true w s at b h e = rw (h, e) (omega arith)
-byte-is false w s at b h e = rw (h, e) (omega arith)
+one_byte true s at = omega arith
+one_byte false s at = omega arith
 
 -- ---- numbers one after the other
 
 -- four SHORTs
-pub four-laid : (d : List ℕ) (at a b c e : ℕ) → at + 8 ≤ length d → (d₁ d₂ d₃ d₄ : List ℕ) → d₁ ≡ splice d at (enc 2 a) → d₂ ≡ splice d₁ (at + 2) (enc 2 b)
-    → d₃ ≡ splice d₂ (at + 4) (enc 2 c) → d₄ ≡ splice d₃ (at + 6) (enc 2 e) → d₄ ≡ splice d at (encs 2 (a ∷ b ∷ c ∷ e ∷ []))
+pub four_laid : (d : List ℕ) (at : ℕ) (ns : List ℕ) → length ns ≡ 4 → at + 8 ≤ length d
+    → splice (splice (splice (splice d at (enc 2 (get_or ns 0 0))) (at + 2) (enc 2 (get_or ns 1 0))) (at + 4) (enc 2 (get_or ns 2 0))) (at + 6) (enc 2 (get_or ns 3 0))
+    ≡ splice d at (encs 2 ns)
 unfolding encs joined
-four-laid d at a b c e h d₁ d₂ d₃ d₄ p q r s =
-    let all : List ℕ = encs 2 (a ∷ b ∷ c ∷ e ∷ []) in
-    let l : length all ≡ 8 = length-encs 2 (a ∷ b ∷ c ∷ e ∷ []) in
-    let s₁ = lay d at all d at (enc 2 a) (encs 2 (b ∷ c ∷ e ∷ [])) (begin d at all (omega arith)) d₁ (at + 2) p (omega (arith, length-enc 2 a)) in
-    let s₂ = lay d at all d₁ (at + 2) (enc 2 b) (encs 2 (c ∷ e ∷ [])) s₁ d₂ (at + 4) q (omega (arith, length-enc 2 b)) in
-    let s₃ = lay d at all d₂ (at + 4) (enc 2 c) (encs 2 (e ∷ [])) s₂ d₃ (at + 6) r (omega (arith, length-enc 2 c)) in
-    end d at all d₄ (at + 8) (lay d at all d₃ (at + 6) (enc 2 e) [] s₃ d₄ (at + 8) s (omega (arith, length-enc 2 e)))
+four_laid d at (a ∷ b ∷ c ∷ e ∷ []) n h =
+    let within : at ≤ length d = omega arith in
+    let one : at + 2 ≡ at + length (enc 2 a) = omega (arith, length-enc 2 a) in
+    let two : at + 4 ≡ at + length (enc 2 a ++ enc 2 b) = omega (arith, length-append (enc 2 a) (enc 2 b), length-enc 2 a, length-enc 2 b) in
+    let three : at + 6 ≡ at + length (enc 2 a ++ enc 2 b ++ enc 2 c) =
+    omega (arith, length-append (enc 2 a ++ enc 2 b) (enc 2 c), length-append (enc 2 a) (enc 2 b), length-enc 2 a, length-enc 2 b, length-enc 2 c) in
+    let end : enc 2 a ++ enc 2 b ++ enc 2 c ++ enc 2 e ≡ enc 2 a ++ (enc 2 b ++ (enc 2 c ++ (enc 2 e ++ []))) = simp (append_assoc, append-nil) in
+    rw (splice_behind d at (enc 2 a) (at + 2) (enc 2 b) within one, splice_behind d at (enc 2 a ++ enc 2 b) (at + 4) (enc 2 c) within two)
+    (splice_behind d at (enc 2 a ++ enc 2 b ++ enc 2 c) (at + 6) (enc 2 e) within three ∙ ap (splice d at) end)
+four_laid d at _ n h = absurd (omega arith)
 
 pub encs-append : (w : ℕ) (xs ys : List ℕ) → encs w (xs ++ ys) ≡ encs w xs ++ encs w ys
 unfolding encs joined
@@ -80,191 +74,103 @@ encs-append w (x ∷ xs) ys = ap (λ (l : List ℕ). enc w x ++ l) (encs-append 
 
 -- ---- the elements of a value
 
-pub row_in : (w i n : ℕ) → i < n → w * i + w ≤ w * n
-row_in w i n h = subst (λ (k : ℕ). k ≤ w * n) (mul-suc w i) (mul-le-mul_left w h)
-
-pub row_next : (w i : ℕ) → w * (i + 1) ≡ w * i + w
-row_next w i = ap (λ (k : ℕ). w * k) (add-one i) ∙ mul-suc w i
-
 module _ (s : List ℕ) (big : Bool) (w start n : ℕ) where
-  abbrev element : ℕ → ℕ
-  element i = num big w (drop start s) (w * i)
-
   -- those from i on
-  abbrev pub elements_from : ℕ → List ℕ
-  elements_from i = encs w (build element i (n - i))
+  unfoldable pub elements_from : ℕ → List ℕ
+  elements_from i = encs w (build (λ j. num big w (drop start s) (w * j)) i (n - i))
 
-  abbrev pub elements_all : List ℕ
-  elements_all = encs w (elems big w n (drop start s))
+  pub elements_all : elements_from 0 ≡ encs w (elems big w n (drop start s))
+  unfolding elements_from elems
+  elements_all = rw sub-zero
 
-  pub elements-begin : (d : List ℕ) (at : ℕ) → at + w * n ≤ length d → Writing d at elements_all d at (elements_from 0)
-  unfolding elems
-  elements-begin d at h =
-      let l : length elements_all ≡ w * n = length-encs w (elems big w n (drop start s)) ∙ ap (λ (k : ℕ). w * k) (length_elems big w n (drop start s)) in
-      rw sub-zero (begin d at elements_all (omega arith))
+  pub elements_more : (i o a o' : ℕ) (out : List ℕ) → i < n → o ≤ length out → a ≡ start + w * i → o' ≡ o + w
+      → splice (splice out o (enc w (num big w s a))) o' (elements_from (i + 1)) ≡ splice out o (elements_from i)
+  unfolding elements_from encs joined
+  elements_more i o a o' out h within is-a is_o =
+      let g : ℕ → ℕ = λ j. num big w (drop start s) (w * j) in
+      let e : num big w s a ≡ g i = ap (num big w s) is-a ∙ sym (num-drop big w start s (w * i)) in
+      splice_behind out o (enc w (num big w s a)) o' (elements_from (i + 1)) within (omega (arith, length-enc w (num big w s a)))
+      ∙ ap (λ (x : ℕ). splice out o (enc w x ++ elements_from (i + 1))) e
+      ∙ ap (λ (xs : List ℕ). splice out o (encs w xs)) (sym (build-step g i n h))
 
-  module _ (d : List ℕ) (at : ℕ) (all out : List ℕ) (o i : ℕ) (state : Writing d at all out o (elements_from i)) where
-    opened : i < n → Writing d at all out o (enc w (element i) ++ elements_from (i + 1))
-    unfolding encs joined
-    opened h = told d at all out o (elements_from i) _ (ap (encs w) (build-step element i n h)) state
+  pub elements_none : (o : ℕ) (out : List ℕ) → splice out o (elements_from n) ≡ out
+  unfolding elements_from encs joined
+  elements_none o out = rw (build-end (λ j. num big w (drop start s) (w * j)) n) (splice_nil out o)
 
-    -- there is room for element i
-    pub element-room : i < n → o + w ≤ length out
-    element-room h = omega (arith, (opened h).fits, length-append (enc w (element i)) (elements_from (i + 1)), length-enc w (element i), state.long)
-
-    pub elements-turn : i < n → (v a : ℕ) → v ≡ num big w s a → a ≡ start + w * i → (out' : List ℕ) (o' : ℕ) → out' ≡ splice out o (enc w v) → o' ≡ o + w
-        → Writing d at all out' o' (elements_from (i + 1))
-    elements-turn h v a is-v is-a out' o' e q =
-        let g : v ≡ element i = is-v ∙ ap (num big w s) is-a ∙ sym (num-drop big w start s (w * i)) in
-        lay d at all out o (enc w (element i)) (elements_from (i + 1)) (opened h) out' o'
-        (e ∙ ap (λ (x : ℕ). splice out o (enc w x)) g) (omega (arith, length-enc w (element i)))
-
-    pub elements-end : n ≤ i → out ≡ splice d at all
-    unfolding encs joined build
-    elements-end h =
-        let e : n - i ≡ 0 = omega arith in
-        end d at all out o (rw e at state)
+-- what `put_elements` asks of all that
+pub ruleset elements_turn = (elements_all, elements_more, elements_none)
 
 -- ---- the values of the entries at a location
-
-module _ (s : List ℕ) (big : Bool) (w l : ℕ) (e : KeyEntry) where
-  -- an entry at the location
-  pub value-here : e.location ≡ l → encs w (elems big w e.count (drop (w * e.index) s)) ≡ encs w (values_at big l w s e)
-  unfolding values_at elements
-  value-here h = rw (eq-eqb e.location l h)
-
-  pub count-here : e.location ≡ l → e.count ≡ count_if_at l e
-  unfolding count_if_at
-  count-here h = rw (eq-eqb e.location l h)
-
-  pub fits-here : e.location ≡ l → (at n : ℕ) → at + w * count_if_at l e ≤ n → at + w * e.count ≤ n
-  fits-here h at n q = subst (λ (k : ℕ). at + w * k ≤ n) (sym (count-here h)) q
-
-  -- an entry at another
-  pub value-elsewhere : (e.location ≡ l → ⊥) → [] ≡ encs w (values_at big l w s e)
-  unfolding values_at encs joined
-  value-elsewhere h = rw (ne_eqb e.location l h)
-
-  pub count-elsewhere : (e.location ≡ l → ⊥) → 0 ≡ count_if_at l e
-  unfolding count_if_at
-  count-elsewhere h = rw (ne_eqb e.location l h)
-
-  -- nothing is written of it
-  pub laid-elsewhere : (e.location ≡ l → ⊥) → (d : List ℕ) (at : ℕ) → d ≡ splice d at (encs w (values_at big l w s e))
-  laid-elsewhere h d at = sym (splice-nil d at) ∙ ap (splice d at) (value-elsewhere h)
-
-  pub next-elsewhere : (e.location ≡ l → ⊥) → (at : ℕ) → at ≡ at + w * count_if_at l e
-  next-elsewhere h at = let z : w * 0 ≡ w * count_if_at l e = ap (λ (k : ℕ). w * k) (count-elsewhere h) in omega (arith, mul-zero w)
-
-  pub length-value : length (encs w (values_at big l w s e)) ≡ w * count_if_at l e
-  length-value = length-encs w (values_at big l w s e) ∙ ap (λ (k : ℕ). w * k) (length-values big l w s e)
 
 module _ (directory s : List ℕ) (big : Bool) (w l n : ℕ) where
   abbrev entry : ℕ → KeyEntry
   entry = key_at (runs big directory [] [])
 
-  abbrev pub values_from : ℕ → List ℕ
+  -- those of the entries from i on
+  unfoldable pub values_from : ℕ → List ℕ
   values_from i = encs w (joined (values_at big l w s) (build entry i (n - i)))
 
-  abbrev All : List ℕ
-  All = value_bytes big w l s directory n
+  pub values_all : values_from 0 ≡ value_bytes big w l s directory n
+  unfolding values_from
+  values_all = rw sub-zero
 
-  pub values-begin : (d : List ℕ) (at : ℕ) → at + length All ≤ length d → Writing d at All d at (values_from 0)
-  values-begin d at h = rw sub-zero (begin d at All h)
+  values-step : (i : ℕ) → i < n → values_from i ≡ encs w (values_at big l w s (entry i)) ++ values_from (i + 1)
+  unfolding values_from joined
+  values-step i h =
+      ap (λ (es : List KeyEntry). encs w (joined (values_at big l w s) es)) (build-step entry i n h)
+      ∙ encs-append w (values_at big l w s (entry i)) (joined (values_at big l w s) (build entry (i + 1) (n - (i + 1))))
 
-  module _ (d : List ℕ) (at : ℕ) (all out : List ℕ) (o i : ℕ) (state : Writing d at all out o (values_from i)) where
-    apart : i < n → Writing d at all out o (encs w (values_at big l w s (entry i)) ++ values_from (i + 1))
-    unfolding joined
-    apart h =
-        told d at all out o (values_from i) _
-        (ap (λ (es : List KeyEntry). encs w (joined (values_at big l w s) es)) (build-step entry i n h)
-        ∙ encs-append w (values_at big l w s (entry i)) (joined (values_at big l w s) (build entry (i + 1) (n - (i + 1)))))
-        state
+  length-value : (e : KeyEntry) → length (encs w (values_at big l w s e)) ≡ w * count_if_at l e
+  length-value e = length-encs w (values_at big l w s e) ∙ ap (λ (k : ℕ). w * k) (length-values big l w s e)
 
-    -- there is room for the value of entry i
-    pub value_room : i < n → (e : KeyEntry) → e ≡ entry i → o + w * count_if_at l e ≤ length out
-    value_room h e is-e =
-        let t = (apart h).fits in
-        let a = length-append (encs w (values_at big l w s (entry i))) (values_from (i + 1)) in
-        let b = length-value s big w l (entry i) in
-        let c : o + w * count_if_at l (entry i) ≤ length out = omega (arith, state.long) in
-        subst (λ (x : KeyEntry). o + w * count_if_at l x ≤ length out) (sym is-e) c
+  pub values_long : (i : ℕ) → i < n → length (values_from i) ≡ w * count_if_at l (entry i) + length (values_from (i + 1))
+  values_long i h = omega (arith, ap length (values-step i h), length-append (encs w (values_at big l w s (entry i))) (values_from (i + 1)), length-value (entry i))
 
-    pub values-turn : i < n → (e : KeyEntry) → e ≡ entry i → (out' : List ℕ) (o' : ℕ) → out' ≡ splice out o (encs w (values_at big l w s e))
-        → o' ≡ o + w * count_if_at l e → Writing d at all out' o' (values_from (i + 1))
-    values-turn h e is-e out' o' p q =
-        lay d at all out o (encs w (values_at big l w s (entry i))) (values_from (i + 1)) (apart h) out' o'
-        (p ∙ ap (λ (x : KeyEntry). splice out o (encs w (values_at big l w s x))) is-e)
-        (q ∙ ap (λ (x : KeyEntry). o + w * count_if_at l x) is-e ∙ ap (λ (k : ℕ). o + k) (sym (length-value s big w l (entry i))))
+  pub values_more : (i o o' : ℕ) (out : List ℕ) → i < n → o ≤ length out → o' ≡ o + w * count_if_at l (entry i)
+      → splice (splice out o (encs w (values_at big l w s (entry i)))) o' (values_from (i + 1)) ≡ splice out o (values_from i)
+  values_more i o o' out h within is_o =
+      splice_behind out o (encs w (values_at big l w s (entry i))) o' (values_from (i + 1)) within (omega (arith, length-value (entry i)))
+      ∙ ap (splice out o) (sym (values-step i h))
 
-    pub values-end : n ≤ i → out ≡ splice d at all
-    unfolding encs joined build
-    values-end h =
-        let e : n - i ≡ 0 = omega arith in
-        end d at all out o (rw e at state)
+  pub values_none : (o : ℕ) (out : List ℕ) → splice out o (values_from n) ≡ out
+  unfolding values_from encs joined
+  values_none o out = rw (build-end entry n) (splice_nil out o)
+
+-- what `put_values` asks of all that
+pub ruleset values_turn = (values_all, values_long, values_more, values_none)
 
 -- ---- the entries
-
--- four numbers each
-pub length-entries : (es : List KeyEntry) → length (joined entry_numbers es) ≡ 4 * length es
-unfolding joined entry_numbers
-length-entries [] = refl
-length-entries (e ∷ es) = omega (arith, length-entries es)
 
 module _ (directory : List ℕ) (big : Bool) (n : ℕ) where
   abbrev entry_at : ℕ → KeyEntry
   entry_at = key_at (runs big directory [] [])
 
   -- those from i on, with b before them
-  abbrev pub entries_from : Before → ℕ → List ℕ
+  unfoldable pub entries_from : Before → ℕ → List ℕ
   entries_from b i = encs 2 (joined entry_numbers (moved b.shorts b.doubles b.characters (build entry_at i (n - i))))
 
-  pub length-entry_bytes : length (entry_bytes big directory n) ≡ 8 * n
-  length-entry_bytes =
-      let es = entries_of big directory n in
-      let a = length-encs 2 (joined entry_numbers (moved (4 + 4 * n) 0 0 es)) in
-      let b = length-entries (moved (4 + 4 * n) 0 0 es) in
-      let c = length_moved (4 + 4 * n) 0 0 es in
-      let e = length-build entry_at 0 n in
-      omega arith
+  pub entries_all : entries_from (nothing n) 0 ≡ entry_bytes big directory n
+  unfolding entries_from
+  entries_all = rw sub-zero
 
-  pub entries-begin : (d : List ℕ) (at : ℕ) → at + 8 * n ≤ length d → Writing d at (entry_bytes big directory n) d at (entries_from (nothing n) 0)
-  entries-begin d at h = rw sub-zero (begin d at (entry_bytes big directory n) (omega (arith, length-entry_bytes)))
+  pub entries_more : (b : Before) (i o o' index : ℕ) (out : List ℕ) → i < n → o ≤ length out → o' ≡ o + 8
+      → index ≡ new_index b.shorts b.doubles b.characters (entry_at i)
+      → splice (splice out o (encs 2 ((entry_at i).key ∷ (entry_at i).location ∷ (entry_at i).count ∷ index ∷ []))) o' (entries_from (next_of b (entry_at i)) (i + 1))
+      ≡ splice out o (entries_from b i)
+  unfolding entries_from moved joined entry_numbers
+  entries_more b i o o' index out h within is_o is-index =
+      let e : KeyEntry = entry_at i in
+      let numbers : List ℕ = e.key ∷ e.location ∷ e.count ∷ index ∷ [] in
+      let rest : List ℕ = entries_from (next_of b e) (i + 1) in
+      splice_behind out o (encs 2 numbers) o' rest within (omega (arith, length-encs 2 numbers))
+      ∙ ap (splice out o)
+      (ap (λ (x : ℕ). encs 2 (e.key ∷ e.location ∷ e.count ∷ x ∷ []) ++ rest) is-index
+      ∙ sym (ap (λ (es : List KeyEntry). encs 2 (joined entry_numbers (moved b.shorts b.doubles b.characters es))) (build-step entry_at i n h)
+      ∙ encs-append 2 (e.key ∷ e.location ∷ e.count ∷ new_index b.shorts b.doubles b.characters e ∷ []) _))
 
-  module _ (d : List ℕ) (at : ℕ) (all out : List ℕ) (o : ℕ) (b : Before) (i : ℕ) (state : Writing d at all out o (entries_from b i)) where
-    abbrev index-of : KeyEntry → ℕ
-    index-of = new_index b.shorts b.doubles b.characters
+  pub entries_none : (b : Before) (o : ℕ) (out : List ℕ) → splice out o (entries_from b n) ≡ out
+  unfolding entries_from encs joined moved
+  entries_none b o out = rw (build-end entry_at n) (splice_nil out o)
 
-    abbrev now-written : List ℕ
-    now-written = encs 2 (entry_numbers (with_index (entry_at i) (index-of (entry_at i))))
-
-    abbrev next : List ℕ
-    next = entries_from (next_of b (entry_at i)) (i + 1)
-
-    cut : i < n → Writing d at all out o (now-written ++ next)
-    unfolding moved joined
-    cut h =
-        told d at all out o (entries_from b i) _
-        (ap (λ (es : List KeyEntry). encs 2 (joined entry_numbers (moved b.shorts b.doubles b.characters es))) (build-step entry_at i n h)
-        ∙ encs-append 2 (entry_numbers (with_index (entry_at i) (index-of (entry_at i)))) _)
-        state
-
-    eight : length now-written ≡ 8
-    unfolding entry_numbers
-    eight = length-encs 2 (entry_numbers (with_index (entry_at i) (index-of (entry_at i))))
-
-    pub entries-turn : i < n → (e : KeyEntry) → e ≡ entry_at i → (index : ℕ) → index ≡ index-of e → (out' : List ℕ)
-        → out' ≡ splice out o (encs 2 (e.key ∷ e.location ∷ e.count ∷ index ∷ [])) → (b' : Before) → b' ≡ next_of b e → (o' : ℕ) → o' ≡ o + 8
-        → Writing d at all out' o' (entries_from b' (i + 1))
-    unfolding entry_numbers
-    entries-turn h e is-e index is-i out' is-out b' is_b o' is_o =
-        let w : out' ≡ splice out o now-written =
-        is-out ∙ (λ j. splice out o (encs 2 ((is-e j).key ∷ (is-e j).location ∷ (is-e j).count ∷ (is-i ∙ ap index-of is-e) j ∷ []))) in
-        let t : Writing d at all out' o' next = lay d at all out o now-written next (cut h) out' o' w (is_o ∙ ap (λ (k : ℕ). o + k) (sym eight)) in
-        told d at all out' o' next _ (ap (λ (x : Before). entries_from x (i + 1)) (sym (is_b ∙ ap (next_of b) is-e))) t
-
-    pub entries-end : n ≤ i → out ≡ splice d at all
-    unfolding encs joined moved build
-    entries-end h =
-        let e : n - i ≡ 0 = omega arith in
-        end d at all out o (rw e at state)
+-- what `put_entries` asks of all that
+pub ruleset entries_turn = (entries_all, entries_more, entries_none)

@@ -1,14 +1,15 @@
 -- What the pass over the key entries finds before anything is written: the first key whose value would start too far, or else how many elements
 -- each of the three parts has. Assumes nothing.
-use Rattle.std.specs.Prelude.{ℕ, ◌+◌, ◌*◌, ◌≤◌, ◌≡◌, Result, Ok, Err, List, [], ◌∷◌, length}
+use Rattle.std.specs.Prelude.{ℕ, ◌+◌, ◌*◌, ◌≤◌, ◌≡◌, Result, Ok, Err, List, [], ◌∷◌}
 use Rattle.paper.specs.Outcome.{first_bad, verdict}
 use Rattle.paper.specs.Tag
-use Rattle.paper.specs.Keys.{Runs, keys, minor_revision, key_count, rule15, rule17}
-use Rattle.paper.specs.Block.{count_if_at, moved, too_far, block_directory, block_doubles, block_bytes}
+use Rattle.paper.specs.Keys.{Runs, keys, rule17}
+use Rattle.paper.specs.Block.{count_if_at, moved, too_far}
 use Rattle.paper.specs.declared.Outcome.{Outcome}
 use Rattle.paper.specs.declared.Outcome.TheVariants.{Kept as kept, Broken as broken}
 use Rattle.paper.specs.declared.Verdict.{Verdict}
 use Rattle.paper.specs.declared.Block.{Block}
+use Rattle.block.specs.declared.Lengths.{Lengths}
 use Rattle.paper.specs.declared.KeyEntry.{KeyEntry}
 use Rattle.block.specs.declared.Before.{Before}
 
@@ -49,20 +50,10 @@ measured b es =
     })
 
 -- what is answered: on a refusal the verdict alone
-abbrev pub told : Result Block Verdict → Block
-told (Ok b) = b
+abbrev pub told : Result Lengths Verdict → Block
+told (Ok l) = record { verdict = verdict 0 0; directory = l.directory; doubles = l.doubles; characters = l.characters }
 told (Err v) = record { verdict = v; directory = 0; doubles = 0; characters = 0 }
 
--- what is known of the runs of an accepted file with minor revision m and k keys
-pub record Sound (r : Runs) (m k : ℕ) : Type 0 where
-  pub fifteen : rule15 r ≡ kept
-  pub seventeen : rule17 r (keys r) ≡ kept
-  pub minor : m ≡ minor_revision r
-  pub many : k ≡ key_count r
-
--- the same, with the lengths of the directory and the doubles, and room for the block in n bytes
-pub record Roomy (r : Runs) (m k d x n : ℕ) : Type 0 where
-  pub sound : Sound r m k
-  pub directory : d ≡ length (block_directory r)
-  pub doubles : x ≡ length (block_doubles r)
-  pub fits : length (block_bytes r) ≤ n
+-- rule 17 is kept
+abbrev pub Placed : Runs → Type 0
+Placed r = rule17 r (keys r) ≡ kept

@@ -2,26 +2,22 @@
 // such runs read back without a file.
 #![tactic(auto)]
 
-ghost use Rattle.std.specs.Prelude.{◌≡◌, not, ◌&&◌, [], ◌∷◌, ◌+◌, ◌*◌, ◌^◌, ◌<◌, ◌≤◌, IfOk, ltb, eqb, length, drop};
+ghost use Rattle.std.specs.Prelude.{◌≡◌, not, ◌&&◌, ◌+◌, ◌*◌, ◌^◌, ◌<◌, ◌≤◌, IfOk, ltb, eqb, length, drop};
 ghost use Rattle.paper.specs.Bytes.{num, enc, elems};
 ghost use Rattle.paper.specs.Calls.{reading_back};
-ghost use Rattle.paper.specs.Block.{encs, values_at, count_if_at, new_index, block_bytes, block_in, block_over, block_of, block_left};
-ghost use Rattle.paper.specs.Keys.{key_at};
+ghost use Rattle.paper.specs.Block.{encs, values_at, count_if_at, new_index, block_in, block_over, block_of, block_left};
+ghost use Rattle.paper.specs.Keys.{minor_revision, key_count};
 ghost use Rattle.keys.specs.Pass.{runs};
-ghost use Rattle.block.specs.Splice.{splice, Wide, entries_of, entry_bytes, value_bytes, LiesIn, Values};
-ghost use Rattle.block.specs.Sizes.{nothing, next_of, measured, told, Low, Sound, Roomy};
+ghost use Rattle.block.specs.Splice.{splice, Wide, entries_of, entry_bytes, value_bytes, LiesIn, Values, Roomy, laid_bytes};
+ghost use Rattle.block.specs.Sizes.{nothing, next_of, measured, told, Low, Placed};
 
+use keys::Entries;
 use paper::{Block, BlockRead, KeyEntry, Verdict};
-
-// The verdict of a call that keeps all rules.
-const ACCEPTED: Verdict = Verdict {
-    number: 0,
-    place: 0,
-};
 
 // ---- one number
 
-// The number of W bytes at a place, 1, 2 or 8, in either byte order.
+// The number of W bytes at a place, 1, 2 or 8, in either byte order. A const parameter has no type that keeps it to these three, so it is asked.
+#[tactic(auto, using(crate::proofs::Turns::one_byte))]
 fn number<const W: usize>(s: &[u8], big: bool, at: usize) -> u64
     requires { Wide W × (at + W ≤ length s.now) }
     ensures { result ≡ num big W s.now at }
@@ -34,6 +30,7 @@ fn number<const W: usize>(s: &[u8], big: bool, at: usize) -> u64
 }
 
 // A number in W bytes at a place, the byte that counts least first.
+#[tactic(auto, using(crate::proofs::Turns::bytes_laid))]
 fn put<const W: usize>(out: &mut [u8], at: usize, value: u64)
     requires { (W ≤ 8) × (at + W ≤ length out.old) }
     ensures { out.new ≡ splice out.old at (enc W value) }
@@ -42,10 +39,12 @@ fn put<const W: usize>(out: &mut [u8], at: usize, value: u64)
 }
 
 // Four SHORTs: the header, and each key entry.
-fn put_four(out: &mut [u8], at: usize, first: usize, second: usize, third: usize, fourth: usize)
+#[tactic(auto, using(crate::proofs::Turns::four_laid))]
+fn put_four(out: &mut [u8], at: usize, numbers: [usize; 4])
     requires { at + 8 ≤ length out.old }
-    ensures { out.new ≡ splice out.old at (encs 2 (first ∷ second ∷ third ∷ fourth ∷ [])) }
+    ensures { out.new ≡ splice out.old at (encs 2 numbers) }
 {
+    let [first, second, third, fourth] = numbers;
     put::<2>(out, at, first as u64);
     put::<2>(out, at + 2, second as u64);
     put::<2>(out, at + 4, third as u64);
@@ -55,6 +54,7 @@ fn put_four(out: &mut [u8], at: usize, first: usize, second: usize, third: usize
 // ---- values
 
 // Elements of W bytes, one after the other.
+#[tactic(auto, using(crate::proofs::Turns::elements_turn))]
 fn put_elements<const W: usize>(
     source: &[u8],
     big: bool,
@@ -73,6 +73,7 @@ fn put_elements<const W: usize>(
 
 // The value of an entry, if it is at this location; answers where the next one goes. A struct of where it comes from, or of where it goes, would be made for each
 // entry and taken apart at once.
+#[tactic(auto, using(crate::proofs::Writing::splice_nil), unfolding(paper::specs::Block::values_at, paper::specs::Block::elements, paper::specs::Block::count_if_at, paper::specs::Block::encs, paper::specs::Block::joined))]
 fn put_value<const W: usize>(
     source: &[u8],
     big: bool,
@@ -154,16 +155,6 @@ impl Before {
 
 // ---- all entries
 
-// So many key entries of a directory, which all stand in it.
-#[derive(Clone, Copy)]
-struct Entries<'a> {
-    directory: &'a [u8],
-    big: bool,
-    count: usize,
-    ghost few: { count ≤ 256 },
-    ghost whole: { 8 + 8 * count ≤ length directory.now },
-}
-
 // Whether a value outside its entry would start too far.
 fn is_too_far(location: usize, index: usize) -> bool
     ensures { result ≡ not (eqb location 0) && ltb 65535 index }
@@ -171,66 +162,70 @@ fn is_too_far(location: usize, index: usize) -> bool
     (location != 0) & (65535 < index)
 }
 
-impl<'a> Entries<'a> {
-    // Entry i, counted from 0.
-    fn at(self, i: usize) -> KeyEntry
-        requires { i < self.count }
-        ensures { (result ≡ key_at (runs self.entry.big self.entry.directory.now [] []) i) × (result.key < 65536) × (result.count < 65536) }
-    {
-        keys::entry_at(self.directory, self.big, i)
-    }
-
-    // Rule 24: the first key whose value would start too far, or else how many elements stand before what follows the last entry, in each of the three
-    // parts.
-    fn measure(self) -> Result<Before, Verdict>
-        ensures sizes { result ≡ measured (nothing self.entry.count) (entries_of self.entry.big self.entry.directory.now self.entry.count) }
-        ensures low { IfOk result (Low 256) }
-    {
-        let mut before = Before::first(self.count);
-        for i in 0..self.count {
-            let e = self.at(i);
-            if is_too_far(e.location, before.index(e)) {
-                return Err(Verdict {
-                    number: 24,
-                    place: e.key as u32,
-                });
-            }
-            before = before.next(e);
+// Rule 24: the first key whose value would start too far, or else how many elements stand before what follows the last entry, in each of the three parts.
+#[tactic(auto, using(crate::proofs::Measuring::found_turn))]
+fn measure(entries: Entries) -> Result<Before, Verdict>
+    ensures sizes { result ≡ measured (nothing entries.entry.count) (entries_of entries.entry.big entries.entry.directory.now entries.entry.count) }
+    ensures low { IfOk result (Low 256) }
+{
+    let mut before = Before::first(entries.count);
+    for i in 0..entries.count {
+        let e = entries.at(i);
+        if is_too_far(e.location, before.index(e)) {
+            return outcomes::refused(24, e.key as u32);
         }
-        Ok(before)
+        before = before.next(e);
     }
+    Ok(before)
+}
 
-    // The entries, each with its new index.
-    fn put(self, out: &mut [u8], at: usize)
-        requires { at + 8 * self.count ≤ length out.old }
-        ensures { out.new ≡ splice out.old at (entry_bytes self.entry.big self.entry.directory.now self.entry.count) }
-    {
-        let mut before = Before::first(self.count);
-        for i in 0..self.count {
-            let e = self.at(i);
-            let index = before.index(e);
-            put_four(out, at + 8 * i, e.key, e.location, e.count, index);
-            before = before.next(e);
-        }
+// The entries, each with its new index.
+#[tactic(auto, using(crate::proofs::Turns::entries_turn, crate::proofs::Measuring::few_at))]
+fn put_entries(entries: Entries, out: &mut [u8], at: usize)
+    requires { at + 8 * entries.count ≤ length out.old }
+    ensures { out.new ≡ splice out.old at (entry_bytes entries.entry.big entries.entry.directory.now entries.entry.count) }
+{
+    let mut before = Before::first(entries.count);
+    for i in 0..entries.count {
+        let e = entries.at(i);
+        let index = before.index(e);
+        put_four(out, at + 8 * i, [e.key, e.location, e.count, index]);
+        before = before.next(e);
     }
+}
 
-    // The values of all entries at one location, in the order of the keys.
-    fn put_values<const W: usize>(self, source: &[u8], location: usize, out: &mut [u8], at: usize)
-        requires { Values self.big self.directory.now source.now W location self.count at (length out.old) }
-        ensures { out.new ≡ splice out.old at (value_bytes self.entry.big W location source.now self.entry.directory.now self.entry.count) }
-    {
-        let mut o = at;
-        for i in 0..self.count {
-            let e = self.at(i);
-            o = put_value::<W>(source, self.big, location, e, out, o);
-        }
+// The values of all entries at one location, in the order of the keys.
+#[tactic(auto, using(crate::proofs::Turns::values_turn))]
+fn put_values<const W: usize>(
+    entries: Entries,
+    source: &[u8],
+    location: usize,
+    out: &mut [u8],
+    at: usize,
+)
+    requires { Values entries.big entries.directory.now source.now W location entries.count at (length out.old) }
+    ensures { out.new ≡ splice out.old at (value_bytes entries.entry.big W location source.now entries.entry.directory.now entries.entry.count) }
+{
+    let mut o = at;
+    for i in 0..entries.count {
+        let e = entries.at(i);
+        o = put_value::<W>(source, entries.big, location, e, out, o);
     }
 }
 
 // ---- the block
 
+// How many bytes each part of a block has.
+#[derive(Clone, Copy)]
+struct Lengths {
+    directory: usize,
+    doubles: usize,
+    characters: usize,
+}
+
 // The whole block, where there is room: the header with the minor revision that was read, the entries, and the values of each location. The directory is d
 // bytes long, the doubles x. A struct of these would be taken apart at once.
+#[tactic(auto, using(crate::proofs::Laid::block_laid))]
 fn put_block(
     entries: Entries,
     doubles: &[u8],
@@ -240,46 +235,46 @@ fn put_block(
     x: usize,
     out: &mut [u8],
 )
-    requires { Roomy (runs entries.big entries.directory.now doubles.now characters.now) minor entries.count d x (length out.old) }
-    ensures { out.new ≡ splice out.old 0 (block_bytes (runs entries.entry.big entries.entry.directory.now doubles.now characters.now)) }
+    requires { Roomy entries.big entries.directory.now doubles.now characters.now entries.count d x (length out.old) }
+    ensures { out.new ≡ splice out.old 0 (laid_bytes entries.entry.big entries.entry.directory.now doubles.now characters.now minor entries.entry.count) }
 {
-    put_four(out, 0, 1, 1, minor, entries.count);
-    entries.put(out, 8);
-    entries.put_values::<2>(
+    put_four(out, 0, [1, 1, minor, entries.count]);
+    put_entries(entries, out, 8);
+    put_values::<2>(
+        entries,
         entries.directory,
         keys::DIRECTORY,
         out,
         8 + 8 * entries.count,
     );
-    entries.put_values::<8>(doubles, keys::DOUBLES, out, d);
-    entries.put_values::<1>(characters, keys::CHARACTERS, out, d + x);
+    put_values::<8>(entries, doubles, keys::DOUBLES, out, d);
+    put_values::<1>(entries, characters, keys::CHARACTERS, out, d + x);
 }
 
-// The block of three runs that keep rules 15 and 17: rules 24 and 25 first, and only then the writing.
+// The block of three runs that keep rule 17: rules 24 and 25 first, and only then the writing.
+#[tactic(auto, using(crate::proofs::Whole::whole_block), unfolding(crate::specs::Sizes::measured, paper::specs::Block::block_in, paper::specs::Block::block_over, paper::specs::Block::block_verdict, paper::specs::Block::rule24, paper::specs::Block::rule25, paper::specs::Block::moved_keys, paper::specs::Outcome::first))]
 fn write_runs(
     entries: Entries,
     doubles: &[u8],
     characters: &[u8],
     minor: usize,
     out: &mut [u8],
-) -> Result<Block, Verdict>
-    requires { Sound (runs entries.big entries.directory.now doubles.now characters.now) minor entries.count }
+) -> Result<Lengths, Verdict>
+    requires placed { Placed (runs entries.big entries.directory.now doubles.now characters.now) }
+    requires revision { minor ≡ minor_revision (runs entries.big entries.directory.now doubles.now characters.now) }
+    requires many { entries.count ≡ key_count (runs entries.big entries.directory.now doubles.now characters.now) }
     ensures answer { told result ≡ block_in (length out.old) (runs entries.entry.big entries.entry.directory.now doubles.now characters.now) }
     ensures bytes { out.new ≡ block_over out.old (runs entries.entry.big entries.entry.directory.now doubles.now characters.now) }
 {
-    let s = entries.measure()?;
+    let s = measure(entries)?;
     let d = 2 * s.shorts;
     let x = 8 * s.doubles;
     let need = d + x + s.characters;
     if out.len() < need {
-        return Err(Verdict {
-            number: 25,
-            place: need as u32,
-        });
+        return outcomes::refused(25, need as u32);
     }
     put_block(entries, doubles, characters, minor, d, x, out);
-    Ok(Block {
-        verdict: ACCEPTED,
+    Ok(Lengths {
         directory: d,
         doubles: x,
         characters: s.characters,
@@ -287,17 +282,18 @@ fn write_runs(
 }
 
 // The key block of a file, where it is accepted and rules 24 and 25 are kept.
-fn write(file: &[u8], out: &mut [u8]) -> Result<Block, Verdict>
+#[tactic(auto, using(crate::proofs::Accepted::good_runs), unfolding(paper::specs::Calls::answer, paper::specs::Block::block_of, paper::specs::Block::block_left))]
+fn write(file: &[u8], out: &mut [u8]) -> Result<Lengths, Verdict>
     ensures answer { told result ≡ block_of file.now (length out.old) }
     ensures bytes { out.new ≡ block_left file.now out.old }
 {
     let e = judge::examine(file)?;
-    let directory = layout::value(file, e.directory.start, e.directory.len);
-    let doubles = layout::value(file, e.doubles.start, e.doubles.len);
-    let characters = layout::value(file, e.characters.start, e.characters.len);
+    let doubles = layout::value(file, e.image.doubles);
+    let characters = layout::value(file, e.image.characters);
+    // Made here and in `texts`: a function of both would have to ask that this is what an examination of this file found, which is known here.
     let entries = Entries {
-        directory,
-        big: e.big,
+        directory: layout::value(file, e.image.directory),
+        big: e.image.big,
         count: e.surveyed.keys as usize,
     };
     write_runs(entries, doubles, characters, e.surveyed.minor as usize, out)
@@ -310,7 +306,12 @@ pub fn key_block(file: &[u8], out: &mut [u8]) -> Block
     ensures bytes { out.new ≡ block_left file.now out.old }
 {
     match write(file, out) {
-        Ok(block) => block,
+        Ok(lengths) => Block {
+            verdict: outcomes::ACCEPTED,
+            directory: lengths.directory,
+            doubles: lengths.doubles,
+            characters: lengths.characters,
+        },
         Err(verdict) => Block {
             verdict,
             directory: 0,
@@ -323,12 +324,18 @@ pub fn key_block(file: &[u8], out: &mut [u8]) -> Block
 // ---- reading back
 
 // Three such runs without a file, little-endian: rules 15 to 19, K and the minor revision.
+#[tactic(auto, unfolding(paper::specs::Calls::reading_back, paper::specs::Calls::read_runs, paper::specs::Calls::back_of, keys::specs::Pass::keys_judged, outcomes::specs::Ruled::ruled, paper::specs::Outcome::first, paper::specs::Keys::key_rules))]
 pub fn read_block(directory: &[u8], doubles: &[u8], characters: &[u8]) -> BlockRead
     ensures { result ≡ reading_back directory.now doubles.now characters.now }
 {
-    match keys::judge_keys(false, directory, doubles, characters) {
+    let values = keys::Values {
+        directory,
+        doubles,
+        characters,
+    };
+    match keys::judge_keys(false, values) {
         Ok(k) => BlockRead {
-            verdict: ACCEPTED,
+            verdict: outcomes::ACCEPTED,
             keys: k.keys,
             minor: k.minor,
         },

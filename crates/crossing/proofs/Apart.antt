@@ -1,7 +1,7 @@
 -- Which pictures share a byte with which lists: what was found of the two directories with their ends is both reading lists, and rules 13 and 14 of a mask
 -- by the three tests that are left. Assumes nothing.
-use Rattle.std.proofs.Common.{◌≡◌, ℕ, ◌*◌, ◌<◌, ◌≤◌, Bool, true, false, cond, ◌||◌, List, [], ◌∷◌, ◌++◌, map, length, Ok, Err, refl, sym, ap, ap₂, ◌∙◌, arith, lt-ltb}
-use mathlib.Core.Bool.{or-false, or-true, or_comm}
+use Rattle.std.proofs.Common.{◌≡◌, ℕ, ◌*◌, ◌<◌, Bool, true, false, cond, ◌||◌, List, [], ◌∷◌, ◌++◌, map, length, Ok, Err, refl, sym, ap, ap₂, ◌∙◌, arith, lt-ltb}
+use mathlib.Core.Bool.{or-false, or-true}
 use Rattle.outcomes.proofs.Ruled.{found-ruled, broken-ruled}
 use Rattle.paper.specs.Bytes.{run}
 use Rattle.paper.specs.Tests.{all, some, keep}
@@ -14,21 +14,22 @@ use Rattle.paper.specs.declared.Outcome.{Outcome}
 use Rattle.paper.specs.declared.Outcome.TheVariants.{Kept as kept, Broken as broken}
 use Rattle.paper.specs.declared.Part.{Part}
 use Rattle.paper.specs.declared.Verdict.{Verdict}
-use Rattle.paper.proofs.Laws.{some-append, run-length-in, and-eq, and_both}
+use Rattle.paper.proofs.Laws.{some-append, and-eq, and_both}
 use Rattle.paper.proofs.Bounds.{table-named}
+use Rattle.layout.specs.Parts.{value_part}
 use Rattle.layout.specs.declared.Further.{Further}
 use Rattle.lines.specs.Lined.{line_tags}
 use Rattle.lines.specs.Ready.{entries_at, held_at, Ready}
 use Rattle.lines.proofs.Slots.{found-long}
 use Rattle.tags.specs.Index
 use Rattle.tags.specs.Tagging.{view_of}
+use Rattle.tags.specs.declared.Size.{Size}
 use Rattle.tags.proofs.Answers.{later-holds}
 use Rattle.pieces.specs.Gaps.{addable, Addable, wide, parts_of, named_parts}
 use Rattle.pieces.specs.Spans.{span_of, within_of}
 use Rattle.pieces.specs.declared.Span.{Span}
 use Rattle.pieces.proofs.Passing.{fourteen-is}
 use Rattle.mask.specs.Masking.{numbered}
-use Rattle.image.specs.Stages.{value_part}
 use Rattle.image.proofs.Listed.{some_or, keep_append, list-with, list-without}
 use Rattle.image.proofs.Placing.{later-named, parts-addable}
 use Rattle.crossing.specs.declared.Picture.{Picture}
@@ -59,31 +60,24 @@ unfolding all
 low-cons p ps a b h = and_both (addable p) _ (and_both _ _ (lt-ltb p.start 68719476736 a) (lt-ltb p.len 68719476736 b)) h
 
 module _ {m : ℕ} {p : Picture} (l : Listed m p) where
-  pub own-low : Addable (directory_part p.directory ∷ map value_part p.found.now)
-  own-low =
+  end-low : Addable (directory_part p.directory ∷ [])
+  unfolding all
+  end-low =
       let h = l.low in
       let k = l.few in
-      low-cons (directory_part p.directory) _ (omega arith) (omega arith) l.addable
+      low-cons (directory_part p.directory) [] (omega arith) (omega arith) refl
+
+  pub own-low : Addable (map value_part p.found.now ++ directory_part p.directory ∷ [])
+  own-low = low-append (map value_part p.found.now) _ l.addable end-low
 
   pub both-low : {n : ℕ} {i : Picture} → Listed n i
-      → Addable (map value_part i.found.now ++ part 0 8 ∷ directory_part i.directory ∷ directory_part p.directory ∷ map value_part p.found.now)
+      → Addable (map value_part i.found.now ++ (map value_part p.found.now ++ part 0 8 ∷ directory_part i.directory ∷ directory_part p.directory ∷ []))
   both-low {i = i} o =
       let h = o.low in
       let k = o.few in
       low-append (map value_part i.found.now) _ o.addable
-      (low-cons (part 0 8) _ (omega arith) (omega arith) (low-cons (directory_part i.directory) _ (omega arith) (omega arith) own-low))
-
--- the run of the further entries is as long as they are
-pub later-long : (f : List ℕ) (r : Further) → Inside f r → {later : List ℕ} → later ≡ run f r.start (12 * r.many) → 12 * r.many ≤ length later
-later-long f r h e = let l = ap length e ∙ run-length-in f r.start (12 * r.many) h.0 in omega arith
-
--- the list that the mask's places are tried against is both lists
-pub both-listed : (f : List ℕ) (i p : Picture) (r : Further) (ss : List Piece) {later : List ℕ} → later ≡ run f r.start (12 * r.many) → {x : Bool}
-    → x ≡ some (touches (named_parts i.directory.big later r.many
-    ++ parts_of (map value_part i.found.now ++ part 0 8 ∷ directory_part i.directory ∷ directory_part p.directory ∷ map value_part p.found.now))) ss
-    → x ≡ some (touches (both_lists f i r p)) ss
-unfolding both_lists
-both-listed f i p r ss is_later e = rw is_later at e
+      (low-append (map value_part p.found.now) _ l.addable
+      (low-cons (part 0 8) _ (omega arith) (omega arith) (low-cons (directory_part i.directory) _ (omega arith) (omega arith) end-low)))
 
 -- ---- what each step is handed
 
@@ -100,9 +94,9 @@ listing r names =
 
 -- ---- the two directories
 
-module _ {f : List ℕ} {p : Picture} {w l : ℕ} (k : Mask f p w l) where
+module _ {f : List ℕ} {p : Picture} {z : Size} (k : Mask f p z) where
   abbrev Masked : View
-  Masked = shown (mask_table w l) f p
+  Masked = shown (mask_table z.width z.length) f p
 
   abbrev Own : List Part
   Own = parts_of (map value_part p.found.now)
@@ -112,22 +106,26 @@ module _ {f : List ℕ} {p : Picture} {w l : ℕ} (k : Mask f p w l) where
 
   pub mask-listing : Listed mask_many p
   unfolding mask_table
-  mask-listing = listing k.ready (mask-named w l)
+  mask-listing = listing k.ready (mask-named z.width z.length)
 
   -- what may be read of the mask's directory, in two
   mask-own : (a : Part) → some (shares a) (directory_of Masked) ≡ some (shares a) Own || shares a End
   unfolding directory_of view_of held_at entries_at line_tags mask_table in_table some
   mask-own a =
-      list-without (mask_table w l) f p.directory.big p.directory.at p.directory.count (run f p.directory.at (dir_len p.directory.count)) k.six a refl
+      list-without (mask_table z.width z.length) f p.directory.big p.directory.at p.directory.count (run f p.directory.at (dir_len p.directory.count)) k.six a refl
       ∙ (λ i. some (shares a) (parts_of (map value_part (sym k.ready.found_are i))) || shares a End)
 
-  own-kept : keep wide (End ∷ map value_part p.found.now) ≡ End ∷ Own
-  unfolding keep wide parts_of
-  own-kept = rw (lt-ltb 4 (dir_len p.directory.count) (omega arith))
+  own-kept : mask_list p ≡ Own ++ End ∷ []
+  unfolding mask_list keep wide parts_of
+  own-kept = keep_append wide (map value_part p.found.now) _ ∙ rw (lt-ltb 4 (dir_len p.directory.count) (omega arith))
 
   mask-list : (a : Part) → some (shares a) (mask_list p) ≡ some (shares a) (directory_of Masked)
-  unfolding mask_list parts_of some
-  mask-list a = ap (some (shares a)) own-kept ∙ or_comm (shares a End) (some (shares a) Own) ∙ sym (mask-own a)
+  unfolding some
+  mask-list a =
+      ap (some (shares a)) own-kept
+      ∙ some-append (shares a) Own (End ∷ [])
+      ∙ ap (λ (b : Bool). some (shares a) Own || b) (or-false (shares a End))
+      ∙ sym (mask-own a)
 
   module _ {i : Picture} {r : Further} {span : Span} (o : Image f i r span) where
     abbrev Shown : View
@@ -160,30 +158,38 @@ module _ {f : List ℕ} {p : Picture} {w l : ℕ} (k : Mask f p w l) where
         (list-with table f i.directory.big i.directory.at i.directory.count (run f i.directory.at (dir_len i.directory.count)) o.behind.six a refl
         ∙ (λ j. some (shares a) (sym (later-named o.ready o.behind o.ten) j ++ parts_of (map value_part (sym o.ready.found_are j))) || shares a Front))
 
-    both-kept : both_lists f i r p ≡ Named ++ (Found ++ part 0 8 ∷ Front ∷ End ∷ Own)
+    abbrev Ends : List Part
+    Ends = part 0 8 ∷ Front ∷ End ∷ []
+
+    both-kept : both_lists f i r p ≡ Named ++ (Found ++ (Own ++ Ends))
     unfolding both_lists parts_of keep wide
     both-kept =
-        ap (λ (ps : List Part). Named ++ ps) (keep_append wide (map value_part i.found.now) _)
+        ap (λ (ps : List Part). Named ++ ps)
+        (keep_append wide (map value_part i.found.now) _ ∙ ap (λ (ps : List Part). Found ++ ps) (keep_append wide (map value_part p.found.now) _))
         ∙ rw (lt-ltb 4 (dir_len i.directory.count) (omega arith), lt-ltb 4 (dir_len p.directory.count) (omega arith))
 
     both-list : (a : Part) → some (shares a) (both_lists f i r p) ≡ some (shares a) (full_of Shown ++ directory_of Masked)
     unfolding some
     both-list a =
         ap (some (shares a)) both-kept
-        ∙ some-append (shares a) Named (Found ++ part 0 8 ∷ Front ∷ End ∷ Own)
-        ∙ ap (λ (b : Bool). some (shares a) Named || b) (some-append (shares a) Found (part 0 8 ∷ Front ∷ End ∷ Own))
-        ∙ regroup (some (shares a) Named) (some (shares a) Found) (shares a (part 0 8)) (shares a Front) (shares a End) (some (shares a) Own)
+        ∙ some-append (shares a) Named (Found ++ (Own ++ Ends))
+        ∙ ap (λ (b : Bool). some (shares a) Named || b)
+        (some-append (shares a) Found (Own ++ Ends) ∙ ap (λ (b : Bool). some (shares a) Found || b) (some-append (shares a) Own Ends))
+        ∙ regroup (some (shares a) Named) (some (shares a) Found) (some (shares a) Own) (shares a (part 0 8)) (shares a Front) (shares a End)
         ∙ sym (some-append (shares a) (full_of Shown) (directory_of Masked)
         ∙ ap₂ (λ (x y : Bool). x || y) (image-own a ∙ ap (λ (b : Bool). shares a (part 0 8) || (b || shares a Front)) (some-append (shares a) Named Found)) (mask-own a))
       where
-        regroup : (x y h d e m : Bool) → x || (y || (h || (d || (e || m)))) ≡ (h || ((x || y) || d)) || (m || e)
-        regroup true y true d e m = refl
-        regroup true y false d e m = refl
-        regroup false true true d e m = refl
-        regroup false true false d e m = refl
-        regroup false false true d e m = refl
-        regroup false false false true e m = refl
-        regroup false false false false e m = or_comm e m
+        regroup : (x y m h d e : Bool) → x || (y || (m || (h || (d || (e || false))))) ≡ (h || ((x || y) || d)) || (m || e)
+        regroup true y m true d e = refl
+        regroup true y m false d e = refl
+        regroup false true m true d e = refl
+        regroup false true m false d e = refl
+        regroup false false true true d e = refl
+        regroup false false true false true e = refl
+        regroup false false true false false e = refl
+        regroup false false false true d e = refl
+        regroup false false false false true e = refl
+        regroup false false false false false e = or-false e
 
     -- the image's own picture is clear of the image's own list
     own-clear : some (touches (full_of Shown)) (pieces_of Shown) ≡ false

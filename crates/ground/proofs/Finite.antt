@@ -18,8 +18,11 @@ not-true false h = refl
 pub no_nan : (b : ℕ) → finite (of_bits binary64 b) ≡ true → T (not (nan_bits binary64 b))
 no_nan b h = rw (finite-no-nan b (not-true _ (sym (finite-bits b) ∙ h))) tt
 
-pub same-finite : (x : Float) → float_is_finite x ≡ finite x
+pub same_finite : (x : Float) → float_is_finite x ≡ finite x
 unfolding float_is_finite finite
-same-finite nan = refl
-same-finite (inf s) = refl
-same-finite (fin s m e) = refl
+same_finite nan = refl
+same_finite (inf s) = refl
+same_finite (fin s m e) = refl
+
+-- the exponent's field alone decides
+pub ruleset by_bits = (finite-bits)

@@ -1,4 +1,3 @@
 -- The laws that the proofs of this crate share. Assumes nothing.
 pub mod Finite
 pub mod Runs
-pub mod Answers

@@ -7,7 +7,6 @@ ghost use Rattle.std.specs.Prelude.{◌≡◌, ◌*◌, []};
 ghost use Rattle.std.specs.Float.{binary64};
 ghost use Rattle.std.specs.Float.Ieee.{of_bits};
 ghost use Rattle.paper.specs.Bytes.{elems};
-ghost use Rattle.paper.specs.Outcome.{verdict};
 ghost use Rattle.paper.specs.Ground.{finite, last, finite_corners};
 ghost use Rattle.ground.specs.Answer.{Holds, Sized, place_of, ground_judged};
 ghost use Rattle.ground.specs.Steps.{surveyed, finite_bits, doubles_of, scale_of, affine_of, placed_at, far_corners};
@@ -36,23 +35,18 @@ struct Picture {
     point: bool,
 }
 
-// The verdict where a rule is broken.
-fn refused(number: u32, place: u32) -> Verdict
-    ensures { result ≡ verdict number place }
-{
-    Verdict { number, place }
-}
-
 // ---- doubles
 
 // Whether 64 bits are a finite double's: the exponent's field is not all ones. std tests a double alone, and `f64::from_bits` is not defined at a NaN's bits.
+#[tactic(auto, using(crate::proofs::Finite::by_bits))]
 fn finite_bits(b: u64) -> bool
     ensures { result ≡ finite (of_bits binary64 b) }
 {
     b % 0x8000_0000_0000_0000 / 0x10_0000_0000_0000 != 2047
 }
 
-// The bits of the N doubles of a run.
+// The bits of the N doubles of a run. Its length is asked, here and below, and is no array's: a const argument, as 8 * N, cannot be computed.
+#[tactic(auto, using(crate::proofs::Runs::elems_are))]
 fn read<const N: usize>(run: &[u8], big: bool) -> [u64; N]
     requires { Holds (8 * N) run.now }
     ensures { result ≡ elems big 8 N run.now }
@@ -72,14 +66,16 @@ fn all_finite<const N: usize>(bits: &[u64; N]) -> bool
 }
 
 // The N doubles of a tag's run: by rule 21 all of them are finite, used or not.
+#[tactic(auto, using(crate::proofs::Runs::made), unfolding(crate::specs::Steps::doubles_of))]
 fn doubles<const N: usize>(run: &[u8], big: bool, tag: u32) -> Result<[f64; N], Verdict>
     requires { Holds (8 * N) run.now }
     ensures { result ≡ doubles_of tag big run.now }
 {
     let bits = read::<N>(run, big);
     if !all_finite(&bits) {
-        return Err(refused(21, tag));
+        return outcomes::refused(21, tag);
     }
+    // The index stays: behind a zip of `iter_mut` nothing is known of what was written, and the goal `returns` stays open. The array's `map` takes twice the instructions for 16 doubles.
     let mut found = [0.0; N];
     for (i, x) in found.iter_mut().enumerate() {
         *x = f64::from_bits(bits[i]);
@@ -120,6 +116,7 @@ pub fn place_of(g: Georeference, i: f64, j: f64) -> Place
 }
 
 // The far end of k columns or rows: k, or k - 1 for PixelIsPoint.
+#[tactic(auto, unfolding(paper::specs::Ground::last))]
 fn far_end(point: bool, k: u32) -> f64
     ensures { result ≡ last point k }
 {
@@ -146,6 +143,7 @@ fn corners_of(g: Georeference, picture: Picture) -> Corners
 // ---- the answers
 
 // Whether all four coordinates are finite.
+#[tactic(auto, using(crate::proofs::Finite::same_finite), unfolding(paper::specs::Ground::finite_corners))]
 fn finite_corners(c: Corners) -> bool
     ensures { result ≡ finite_corners c }
 {
@@ -153,6 +151,7 @@ fn finite_corners(c: Corners) -> bool
 }
 
 // Rule 22, with rules 20 and 21 kept.
+#[tactic(auto, unfolding(crate::specs::Steps::placed_at, paper::specs::Outcome::first, paper::specs::Ground::rule22, outcomes::specs::Ruled::ruled))]
 fn placed(g: Georeference, picture: Picture) -> Result<Ground, Verdict>
     ensures { result ≡ placed_at g (far_corners g picture) }
 {
@@ -163,12 +162,13 @@ fn placed(g: Georeference, picture: Picture) -> Result<Ground, Verdict>
             corners: c,
         });
     }
-    Err(refused(22, 0))
+    outcomes::refused(22, 0)
 }
 
 // ---- scale and tiepoint
 
 // The scale: by rule 21 all three doubles are finite, X and Y above 0.
+#[tactic(auto, using(crate::proofs::Runs::number_at), unfolding(crate::specs::Steps::doubles_of, crate::specs::Steps::scale_of, paper::specs::Ground::scales))]
 fn scale_of(run: &[u8], big: bool) -> Result<[f64; 3], Verdict>
     requires { Holds 24 run.now }
     ensures { result ≡ scale_of big run.now }
@@ -177,10 +177,11 @@ fn scale_of(run: &[u8], big: bool) -> Result<[f64; 3], Verdict>
     if (scale[0] > 0.0) & (scale[1] > 0.0) {
         return Ok(scale);
     }
-    Err(refused(21, 33550))
+    outcomes::refused(21, 33550)
 }
 
 // Rules 21 and 22 for scale and tiepoint with no matrix.
+#[tactic(auto, using(crate::proofs::Runs::number_at), unfolding(crate::specs::Answer::ground_judged, paper::specs::Judge::ground_rules, paper::specs::Outcome::first, paper::specs::Outcome::first_of, paper::specs::Ground::rule20, paper::specs::Ground::rule21, paper::specs::Ground::georeference, paper::specs::Ground::corners, outcomes::specs::Ruled::ruled, crate::specs::Steps::placed_at, crate::specs::Steps::doubles_of, crate::specs::Steps::scale_of))]
 fn judge_scaled(
     big: bool,
     scale: &[u8],
@@ -206,6 +207,7 @@ fn judge_scaled(
 // ---- the matrix
 
 // The affine georeference: by rule 21 all sixteen doubles of the matrix are finite, its last row is 0, 0, 0, 1, and the two products of its first rows differ.
+#[tactic(auto, using(crate::proofs::Runs::number_at), unfolding(crate::specs::Steps::doubles_of, crate::specs::Steps::affine_of, paper::specs::Ground::spans))]
 fn affine_of(run: &[u8], big: bool) -> Result<Georeference, Verdict>
     requires { Holds 128 run.now }
     ensures { result ≡ affine_of big run.now }
@@ -222,10 +224,11 @@ fn affine_of(run: &[u8], big: bool) -> Result<Georeference, Verdict>
             m8,
         });
     }
-    Err(refused(21, 34264))
+    outcomes::refused(21, 34264)
 }
 
 // Rules 21 and 22 for the matrix with no scale and no tiepoint.
+#[tactic(auto, using(crate::proofs::Runs::none_finite), unfolding(crate::specs::Answer::ground_judged, paper::specs::Judge::ground_rules, paper::specs::Outcome::first, paper::specs::Outcome::first_of, paper::specs::Ground::rule20, paper::specs::Ground::rule21, paper::specs::Ground::georeference, paper::specs::Ground::corners, outcomes::specs::Ruled::ruled, crate::specs::Steps::placed_at, crate::specs::Steps::affine_of))]
 fn judge_affine(big: bool, matrix: &[u8], picture: Picture) -> Result<Ground, Verdict>
     requires { Holds 128 matrix.now }
     ensures { result ≡ ground_judged (surveyed big [] [] matrix.now picture) }
@@ -236,7 +239,9 @@ fn judge_affine(big: bool, matrix: &[u8], picture: Picture) -> Result<Ground, Ve
 
 // ---- the whole
 
-// Rules 20 to 22: the georeference and the corners, or the verdict. An absent tag's run is empty. A struct of the runs would be taken apart at once.
+// Rules 20 to 22: the georeference and the corners, or the verdict. An absent tag's run is empty. A struct of the runs would be taken apart at once; width
+// and length come apart, since the type that holds both is of `tags`, on which this crate does not stand.
+#[tactic(auto, unfolding(crate::specs::Answer::ground_judged, paper::specs::Judge::ground_rules, paper::specs::Outcome::first, paper::specs::Ground::rule20, outcomes::specs::Ruled::ruled))]
 pub fn judge_ground(
     big: bool,
     scale: &[u8],
@@ -257,6 +262,6 @@ pub fn judge_ground(
     match (scale.is_empty(), tiepoint.is_empty(), matrix.is_empty()) {
         (false, false, true) => judge_scaled(big, scale, tiepoint, picture),
         (true, true, false) => judge_affine(big, matrix, picture),
-        _ => Err(refused(20, 0)),
+        _ => outcomes::refused(20, 0),
     }
 }

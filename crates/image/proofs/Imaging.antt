@@ -1,6 +1,6 @@
 -- The image of a file, stage by stage: where a stage refuses, its verdict is the image's; where none does, the entries that were found say what the view
 -- says. Assumes nothing.
-use Rattle.std.specs.Prelude.{Ok, Err}
+use Rattle.std.specs.Prelude.{Option, Some, None, option_map, Ok, Err}
 use Prim.Native.Nat.{ℕ}
 use mathlib.Core.Path.{◌≡◌, refl, sym, ap, ◌∙◌}
 use mathlib.Core.Bool.{Bool, true, false, cond, not}
@@ -17,18 +17,19 @@ use Rattle.paper.specs.Layout.{dir_len, entries, next_offset}
 use Rattle.paper.specs.Tags.{table}
 use Rattle.paper.specs.Judge.{View, view, view_at, head_in, dir_run, next_in, pieces_of, full_of}
 use Rattle.paper.specs.Judge.{table_rules, piece_rules, picture_rules, picture_stage, image_stage}
-use Rattle.paper.proofs.First.{first-append, chain-zero, chain-stop}
+use Rattle.paper.proofs.First.{first-append}
 use Rattle.paper.proofs.Several.{entries-held}
 use Rattle.paper.specs.declared.Entry.{Entry}
 use Rattle.paper.specs.declared.Verdict.{Verdict}
 use Rattle.paper.specs.Tag
 use Rattle.layout.specs.Columns.{firsts}
 use Rattle.layout.specs.Opening.{headed_of, opened_of, scanned_of, LaidAt}
+use Rattle.layout.specs.Parts.{value_part}
 use Rattle.layout.specs.Repeats.{further_of}
 use Rattle.layout.specs.declared.Further.{Further}
 use Rattle.layout.specs.declared.Head.{Head}
 use Rattle.layout.specs.declared.Scanned.{Scanned}
-use Rattle.layout.proofs.Stages.{head-is, lay, head-refuses, open-refuses, after-scan}
+use Rattle.layout.proofs.Stages.{head-is, lay, head-refuses, open-refuses, scan-refuses, scan-keeps}
 use Rattle.lines.specs.Lined.{line_tags}
 use Rattle.lines.specs.Ready.{entries_at, held_at, at_slot}
 use Rattle.lines.proofs.Laid.{behind, ready}
@@ -37,10 +38,15 @@ use Rattle.tags.specs.Index
 use Rattle.tags.specs.Tagging.{view_of, tagged_of}
 use Rattle.tags.specs.declared.Pictured.{Pictured}
 use Rattle.tags.proofs.Accepted.{view_is, Told, told, Accepted, accepted}
-use Rattle.image.specs.Imaging.{tag_part, image_in, image_of}
-use Rattle.image.specs.Stages.{value_part, Passed, pieces_judged, placed_in}
-use Rattle.pieces.specs.Spans.{no_span, span_of}
+use Rattle.image.specs.Imaging.{tag_part, text_part, next_of, image_in, image_of}
+use Rattle.image.specs.declared.Next.{Next}
+use Rattle.image.specs.Stages.{present_part, Passed, pieces_judged, placed_in}
+use Rattle.pieces.specs.Spans.{span_of}
 use Rattle.pieces.specs.declared.Span.{Span}
+
+-- where an offset leads, with a span
+abbrev pub next_at : ℕ → Span → Next
+next_at n s = record { offset = n; span = s }
 
 -- ---- a view: rules 27 and 9 to 12, then 13 and 14
 
@@ -64,8 +70,8 @@ module _ (v : View) (next : ℕ) where
     unfolding placed_in
     pieces-refuse spanned e h = other-refuses (pieces_judged v) _ (image_in v next) e h ∙ sym to-pieces
 
-    module _ (spanned : Bool) {span : Span} (so : Ok span ≡ placed_in spanned v) where
-      placed : ((pieces_judged v).number ≡ 0) × (span ≡ cond spanned (span_of (pieces_of v)) no_span)
+    module _ (spanned : Bool) {span : Option Span} (so : Ok span ≡ placed_in spanned v) where
+      placed : ((pieces_judged v).number ≡ 0) × (span ≡ cond spanned (Some (span_of (pieces_of v))) None)
       unfolding placed_in
       placed = found-ruled (pieces_judged v) _ span so
 
@@ -73,10 +79,12 @@ module _ (v : View) (next : ℕ) where
       found-all = sym (to-pieces ∙ kept-ruled (pieces_judged v) (image_in v next) placed.0)
 
       -- the span, which is asked for where the next offset is not 0
-      span-told : spanned ≡ not (eqb next 0) → span ≡ cond (eqb next 0) no_span (span_of (pieces_of v))
-      span-told asked = placed.1 ∙ rw asked (go (eqb next 0))
+      next-told : spanned ≡ not (eqb next 0) → option_map (λ (s : Span). next_at next s) span ≡ next_of v next
+      unfolding next_of
+      next-told asked = rw (placed.1, asked) (go (eqb next 0))
         where
-          go : (b : Bool) → cond (not b) (span_of (pieces_of v)) no_span ≡ cond b no_span (span_of (pieces_of v))
+          go : (b : Bool) → option_map (λ (s : Span). next_at next s) (cond (not b) (Some (span_of (pieces_of v))) None)
+              ≡ cond b None (Some (record { offset = next; span = span_of (pieces_of v) }))
           go true = refl
           go false = refl
 
@@ -94,43 +102,43 @@ module _ {f : List ℕ} {big : Bool} {at c : ℕ} {found : List Entry} {r : Furt
   unfolding tag_part
   part-is u k s = ap value_part (sym s.entry)
 
-  pub image-good : {next : ℕ} (spanned : Bool) {span : Span} → Ok span ≡ placed_in spanned (view_of table f big at c)
+  text-is : (u k : ℕ) → Slot f (held_at table f big at c) found u k → present_part (at_slot found k) ≡ text_part u (held_at table f big at c)
+  unfolding text_part
+  text-is u k s = (λ i. cond (sym s.present i) (Some (part-is u k s i)) None)
+
+  pub image-good : (next : ℕ) (spanned : Bool) {span : Option Span} → Ok span ≡ placed_in spanned (view_of table f big at c)
       → spanned ≡ not (eqb next 0)
       → Ok (record {
         big = big;
-        width = t.width;
-        length = t.length;
+        size = t.size;
         at = at;
-        next = next;
-        span = span;
+        next = option_map (λ (s : Span). next_at next s) span;
         directory = value_part (at_slot found Index.key_directory);
         doubles = value_part (at_slot found Index.doubles);
         characters = value_part (at_slot found Index.characters);
         scale = value_part (at_slot found Index.scale);
         tiepoint = value_part (at_slot found Index.tiepoint);
         matrix = value_part (at_slot found Index.matrix);
-        metadata = value_part (at_slot found Index.metadata);
+        metadata = present_part (at_slot found Index.metadata);
         further = r;
       })
       ≡ ruled (picture_stage (view_of table f big at c)) (image_in (view_of table f big at c) next)
   unfolding image_in view_of held_at
-  image-good {next} spanned {span} so asked =
-      let sp = span-told (view_of table f big at c) next is spanned so asked in
+  image-good next spanned {span} so asked =
+      let nx = next-told (view_of table f big at c) next is spanned so asked in
       let d = part-is Tag.key_directory Index.key_directory known.directory in
       let x = part-is Tag.doubles Index.doubles known.doubles in
       let ch = part-is Tag.characters Index.characters known.characters in
       let sc = part-is Tag.scale Index.scale known.scale.slot in
       let ti = part-is Tag.tiepoint Index.tiepoint known.tiepoint.slot in
       let m = part-is Tag.matrix Index.matrix known.matrix.slot in
-      let me = part-is Tag.metadata Index.metadata known.metadata in
+      let me = text-is Tag.metadata Index.metadata known.metadata in
       let fu = p.behind.is ∙ ap (further_of at) (sym (entries-held table f (entries_at f big at c))) in
       (λ i. Ok (record {
         big = big;
-        width = picture.width_is i;
-        length = picture.length_is i;
+        size = record { width = picture.width_is i; length = picture.length_is i };
         at = at;
-        next = next;
-        span = sp i;
+        next = nx i;
         directory = d i;
         doubles = x i;
         characters = ch i;
@@ -177,20 +185,17 @@ module _ {f : List ℕ} {big : Bool} {at c : ℕ} (o : LaidAt f big at c) where
     unfolding scanned_of
     next-found = ap (λ (x : Scanned). x.next) so ∙ sym next_is
 
-    to-scan : image_stage f ≡ s.verdict ▷ picture_stage (view f)
+    pub scan-bad : (e : Verdict) → s.judged ≡ Err e → Err e ≡ image_of f
     unfolding image_stage
-    to-scan = after-scan o so (picture_stage (view f))
+    scan-bad e h = let r = scan-refuses o so (picture_stage (view f)) h in refused-whole f e r.is r.some
 
-    pub scan-bad : (s.verdict.number ≡ 0 → ⊥) → Err s.verdict ≡ image_of f
-    scan-bad n = refused-whole f s.verdict (to-scan ∙ chain-stop s.verdict _ n) n
-
-    module _ (z : s.verdict.number ≡ 0) where
+    module _ {x : Unit {0}} (good : s.judged ≡ Ok x) where
       pub scan_good : ruled (picture_stage (view_of table f big at c)) (image_in (view_of table f big at c) s.next) ≡ image_of f
-      unfolding image_of
+      unfolding image_of image_stage
       scan_good =
-          let w : image_stage f ≡ picture_stage (view f) = to-scan ∙ chain-zero s.verdict _ z in
+          let w : image_stage f ≡ picture_stage (view f) = scan-keeps o so (picture_stage (view f)) good in
           sym (rw (w, seen, next-found))
 
       pub scan-passed : {ts : List ℕ} {found : List Entry} → ts ≡ line_tags table → found ≡ firsts ts (entries big at c (run f at (dir_len c)))
           → Passed f big at c found s.further
-      scan-passed is k = record { ready = ready o so z is k; behind = behind o so z }
+      scan-passed is k = record { ready = ready o so good is k; behind = behind o so good }

@@ -1,5 +1,6 @@
 -- The laws that the proofs of this crate share. Assumes nothing.
 pub mod Listed
+pub mod Naming
 pub mod Placing
 pub mod Imaging
 pub mod Seen

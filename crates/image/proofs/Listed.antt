@@ -25,12 +25,12 @@ use Rattle.paper.proofs.Laws.{first-same, some-append}
 use Rattle.paper.proofs.Loops.{listed_is, some-values}
 use Rattle.paper.proofs.Several.{some-keep, rises-behind, no_other}
 use Rattle.layout.specs.Columns.{first_with, firsts}
+use Rattle.layout.specs.Parts.{value_part}
 use Rattle.layout.specs.Repeats.{later_texts}
 use Rattle.layout.proofs.Values.{untyped-len}
 use Rattle.lines.specs.Lined.{line_tags}
 use Rattle.pieces.specs.Gaps.{wide, parts_of}
 use Rattle.pieces.specs.Spans.{places_judged}
-use Rattle.image.specs.Stages.{value_part}
 
 -- the value bytes of the entries of 50909 behind the first
 unfoldable pub later_parts : List Entry → List Part

@@ -1,6 +1,6 @@
 -- Rules 13 and 14 over what was found of a directory are those over the view: the entries' parts that may lie outside them are the full reading list, and the
 -- runs that two slots name are the offsets and the byte counts of the pieces. Assumes nothing.
-use Rattle.std.specs.Prelude.{Result}
+use Rattle.std.specs.Prelude.{Result, Option, Some, None}
 use Prim.Native.Nat.{ℕ, zero, suc, ◌+◌, ◌*◌, ◌≤◌, ◌<◌, zero-le, suc-le-suc}
 use mathlib.Core.Path.{◌≡◌, refl, sym, ap, ◌∙◌, subst}
 use mathlib.Core.Bool.{Bool, true, false, cond, not, ◌||◌}
@@ -10,21 +10,21 @@ use native.Mathlib.Omega.{arith}
 use lib.Dec.{eqb, leb, ltb, lit<}
 use lib.ListN.{length}
 use borrow.Author.Tests.{eqb-true, le-ltb, ltb-true, lt-ltb, lt-leb, not-true, not-false}
-use Rattle.order.specs.Width.{width}
 use Rattle.outcomes.specs.Ruled.{ruled}
 use Rattle.paper.specs.Bytes.{run, num, build}
 use Rattle.paper.specs.Tests.{all, some, keep}
-use Rattle.paper.proofs.Laws.{and-eq, and_both, or_same, or-false, run-length-in}
+use Rattle.paper.proofs.Laws.{and-eq, and_both, or_same, or-false}
 use Rattle.paper.specs.Layout.{dir_len, size_of, start_of, entry_of}
-use Rattle.paper.specs.Tags.{Line, Held, named, table, in_table, fits_the_line, find, has, tiled, offsets_tag, byte_counts_tag, piece_count, rule10}
+use Rattle.paper.specs.Tags.{Line, Held, named, table, in_table, fits_the_line, has, tiled, offsets_tag, byte_counts_tag, piece_count, rule10}
 use Rattle.paper.proofs.Bounds.{table-named}
-use Rattle.paper.specs.Pieces.{part, places_of, pieces}
+use Rattle.paper.specs.Pieces.{part}
 use Rattle.paper.specs.declared.Outcome.TheVariants.{Kept as kept}
 use Rattle.paper.specs.declared.Part.{Part}
 use Rattle.paper.specs.declared.Entry.{Entry}
 use Rattle.paper.specs.declared.Verdict.{Verdict}
 use Rattle.paper.specs.Judge.{View, pieces_of, full_of, piece_rules}
 use Rattle.layout.specs.Columns.{firsts}
+use Rattle.layout.specs.Parts.{value_part}
 use Rattle.layout.specs.Repeats.{entries_from}
 use Rattle.layout.specs.declared.Further.{Further}
 use Rattle.tags.specs.Index
@@ -40,9 +40,11 @@ use Rattle.tags.proofs.Rules.{Lined, lined}
 use Rattle.tags.proofs.Fetched.{short-len}
 use Rattle.tags.proofs.Accepted.{Told, told, Accepted, accepted, PieceColumn}
 use Rattle.pieces.specs.Gaps.{addable, Addable, wide, parts_of, named_at, named_parts}
-use Rattle.pieces.specs.Spans.{no_span, span_of, places_judged, placed_of}
+use Rattle.pieces.specs.Spans.{span_of, places_judged, placed_of}
 use Rattle.pieces.specs.declared.Span.{Span}
-use Rattle.image.specs.Stages.{value_part, Fits, pieces_judged, placed_in, outer_of}
+use Rattle.image.specs.Naming.{named_pieces, Named}
+use Rattle.image.specs.Stages.{Fits, pieces_judged, placed_in, outer_of}
+use Rattle.image.proofs.Naming.{named as named_by}
 use Rattle.image.proofs.Listed.{later_parts, keep_append, columns-judged}
 
 -- a list of parts with those that are chosen alone: none of the others counts
@@ -154,12 +156,9 @@ module _ {f : List ℕ} {big : Bool} {at c : ℕ} {t : Pictured} {found : List E
   abbrev Looked : View
   Looked = view_of table f big at c
 
-  -- the entry of slot k, and the bytes of its value
+  -- the entry of slot k
   abbrev Of : ℕ → Entry
   Of k = at_slot found k
-
-  abbrev Stood : ℕ → List ℕ
-  Stood k = run f (at_slot found k).start (at_slot found k).len
 
   picture : Told f big at c t
   picture = told f big at c t p.pictured
@@ -270,45 +269,14 @@ module _ {f : List ℕ} {big : Bool} {at c : ℕ} {t : Pictured} {found : List E
     abbrev Column : ℕ → ℕ → Type 0
     Column u k = PieceColumn f Hs found (piece_count big Hs) u k
 
-    -- the bytes of a number of slot k
-    abbrev Wide : ℕ → ℕ
-    Wide k = width (eqb (at_slot found k).typ 4)
-
     offsets : Column (offsets_tag Hs) x
     offsets = subst (Column (offsets_tag Hs)) (sym (is_x ∙ ap slot_of_offsets picture.tiled_is)) known.offsets
 
     byte_counts : Column (byte_counts_tag Hs) y
     byte_counts = subst (Column (byte_counts_tag Hs)) (sym (is_y ∙ ap slot_of_byte_counts picture.tiled_is)) known.byte_counts
 
-    -- what the pass over the places asks of the two runs
-    pub offsets-room : width (eqb (at_slot found x).typ 4) * (at_slot found x).count
-        ≤ length (run f (at_slot found x).start (at_slot found x).len)
-    offsets-room = offsets.room
-
-    pub byte-counts-room : width (eqb (at_slot found y).typ 4) * (at_slot found x).count
-        ≤ length (run f (at_slot found y).start (at_slot found y).len)
-    byte-counts-room = subst (λ (k : ℕ). Wide y * k ≤ length (Stood y)) (byte_counts.count ∙ sym offsets.count) byte_counts.room
-
-    pub few : (at_slot found x).count < 4294967296
-    few =
-        let n = p.passed.ready.size in
-        let l = run-length-in f (Of x).start (Of x).len offsets.slot.within in
-        let m = offsets.slot.within in
-        go (eqb (Of x).typ 4) offsets.room n l m
-      where
-        go : (w : Bool) → width w * (Of x).count ≤ length (Stood x) → length f ≤ 4294967295 → length (Stood x) ≡ (Of x).len
-            → (Of x).start + (Of x).len ≤ length f → (Of x).count < 4294967296
-        go true r n l m = omega arith
-        go false r n l m = omega arith
-
-    places-are : places_of big (Wide x) (Stood x) (Wide y) (Stood y) (Of x).count ≡ pieces_of Looked
-    unfolding pieces_of pieces view_of
-    places-are =
-        let o = offsets in
-        let s = byte_counts in
-        let a : Wide x ≡ size_of (find (offsets_tag Hs) Hs).entry.typ = sym o.wide ∙ ap (λ (e : Entry). size_of e.typ) (sym o.slot.entry) in
-        let b : Wide y ≡ size_of (find (byte_counts_tag Hs) Hs).entry.typ = sym s.wide ∙ ap (λ (e : Entry). size_of e.typ) (sym s.slot.entry) in
-        λ i. places_of big (a i) (sym o.slot.bytes i) (b i) (sym s.slot.bytes i) (sym o.slot.entry i).count
+    pub pieces-named : Named table f big at c (at_slot found x) (at_slot found y)
+    pieces-named = named_by table big at c p.passed.ready.size offsets byte_counts
 
     outer-parts : parts_of (outer_of found x y (part at (dir_len c))) ≡ parts_of (map value_part (firsts (line_tags table) (entries_at f big at c))) ++ keep wide Ends
     outer-parts =
@@ -321,17 +289,16 @@ module _ {f : List ℕ} {big : Bool} {at c : ℕ} {t : Pictured} {found : List E
 
     -- what the pass over the places answers, of the view
     module _ {fs : List ℕ} (is_f : fs ≡ run f r.start (12 * r.many)) {ps : List Part} (is-ps : ps ≡ outer_of found x y (part at (dir_len c))) where
-      verdict-seen : places_judged (length f) (named_parts big fs r.many ++ parts_of ps) (places_of big (Wide x) (Stood x) (Wide y) (Stood y) (Of x).count)
-          ≡ pieces_judged Looked
+      verdict-seen : places_judged (length f) (named_parts big fs r.many ++ parts_of ps) (named_pieces f big (at_slot found x) (at_slot found y)) ≡ pieces_judged Looked
       unfolding pieces_judged piece_rules full_of view_of entries_at held_at line_tags table in_table some
       verdict-seen =
-          let named : named_parts big fs r.many ≡ Front =
+          let texts : named_parts big fs r.many ≡ Front =
           ap (λ (s : List ℕ). named_parts big s r.many) is_f ∙ later-named p.passed.ready p.passed.behind known.ten in
-          (λ i. places_judged (length f) (named i ++ (ap parts_of is-ps ∙ outer-parts) i) (places-are i))
+          (λ i. places_judged (length f) (texts i ++ (ap parts_of is-ps ∙ outer-parts) i) (pieces-named.places i))
           ∙ columns-judged table refl f big at c (run f at (dir_len c)) p.passed.behind.six (length f) (pieces_of Looked)
 
-      pub pieces-seen : (spanned : Bool) {w : Result Span Verdict}
-          → w ≡ placed_of spanned (length f) (named_parts big fs r.many ++ parts_of ps) (places_of big (Wide x) (Stood x) (Wide y) (Stood y) (Of x).count)
+      pub pieces-seen : (spanned : Bool) {w : Result (Option Span) Verdict}
+          → w ≡ placed_of spanned (length f) (named_parts big fs r.many ++ parts_of ps) (named_pieces f big (at_slot found x) (at_slot found y))
           → w ≡ placed_in spanned Looked
       unfolding placed_of placed_in
-      pieces-seen spanned e = e ∙ (λ i. ruled (verdict-seen i) (cond spanned (span_of (places-are i)) no_span))
+      pieces-seen spanned e = e ∙ (λ i. ruled (verdict-seen i) (cond spanned (Some (span_of (pieces-named.places i))) None))

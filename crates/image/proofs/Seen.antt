@@ -2,15 +2,13 @@
 -- is a run that lies in the file; and rules 13 and 14 are kept. Assumes nothing.
 use Prim.Native.Nat.{ℕ, ◌+◌, ◌-◌, ◌≤◌, ◌<◌}
 use mathlib.Core.Path.{◌≡◌, refl, sym, ap, ◌∙◌, subst}
-use mathlib.Core.Bool.{not}
 use mathlib.Core.List.{List}
-use lib.Dec.{eqb}
 use lib.ListN.{length, get_or}
 use Rattle.paper.specs.Bytes.{run}
 use Rattle.paper.specs.Tests.{all}
 use Rattle.paper.specs.Outcome.{first, ◌▷◌}
 use Rattle.paper.specs.Layout.{rule6}
-use Rattle.paper.specs.Tags.{table, Held, find, has, bytes_of}
+use Rattle.paper.specs.Tags.{table, Held, find, bytes_of}
 use Rattle.paper.specs.Judge.{view, view_at, head_run, head_of, head_in, count_in, dir_run, entries_in, pieces_of, full_of}
 use Rattle.paper.specs.Judge.{head_rules, offset_rules, count_rules, entry_rules, table_rules, piece_rules, picture_rules}
 use Rattle.paper.specs.Judge.{head_stage, offset_stage, count_stage, entry_stage, directory_stage, picture_stage, image_stage}
@@ -132,14 +130,6 @@ module _ (f : List ℕ) (zero : (image_stage f).number ≡ 0) where
       let b : run f (find (tag_at k) Helds).entry.start (find (tag_at k) Helds).entry.len ≡ bytes_of (tag_at k) Helds =
       ap (λ (e : Entry). run f e.start e.len) s.entry ∙ sym s.bytes in
       subst (λ (hs : List Held). Stands f hs (tag_at k)) (sym held-is) (record { bytes = b; within = w })
-
-  -- it is present exactly where its value does not start at 0
-  pub image-present : (k : ℕ) → k < Index.many → has (tag_at k) (view f).held ≡ not (eqb (find (tag_at k) (view f).held).entry.start 0)
-  image-present k h =
-      let s = slot_at ready k h in
-      let p : has (tag_at k) Helds ≡ not (eqb (find (tag_at k) Helds).entry.start 0) =
-      s.present ∙ ap (λ (e : Entry). not (eqb e.start 0)) (sym s.entry) in
-      subst (λ (hs : List Held). has (tag_at k) hs ≡ not (eqb (find (tag_at k) hs).entry.start 0)) (sym held-is) p
 
   -- the picture
   pieces-zero : (first (piece_rules (full_of (view f)) (view f))).number ≡ 0

@@ -1,5 +1,5 @@
 -- What is known of a file after each stage of its image. Assumes nothing.
-use Rattle.std.specs.Prelude.{ℕ, ◌≡◌, Bool, cond, List, [], ◌∷◌, Result, Ok}
+use Rattle.std.specs.Prelude.{ℕ, ◌≡◌, Bool, cond, not, Option, Some, None, List, [], ◌∷◌, eqb, Result, Ok}
 use Rattle.outcomes.specs.Ruled.{ruled}
 use Rattle.paper.specs.Outcome.{first}
 use Rattle.paper.specs.Tags.{table}
@@ -8,8 +8,9 @@ use Rattle.paper.specs.Judge.{View, pieces_of, full_of, piece_rules}
 use Rattle.paper.specs.declared.Entry.{Entry}
 use Rattle.paper.specs.declared.Part.{Part}
 use Rattle.paper.specs.declared.Verdict.{Verdict}
-use Rattle.pieces.specs.Spans.{no_span, span_of}
+use Rattle.pieces.specs.Spans.{span_of}
 use Rattle.pieces.specs.declared.Span.{Span}
+use Rattle.layout.specs.Parts.{value_part}
 use Rattle.layout.specs.declared.Further.{Further}
 use Rattle.lines.specs.Ready.{at_slot, Ready, Behind}
 use Rattle.tags.specs.Index
@@ -31,12 +32,12 @@ unfoldable pub pieces_judged : View → Verdict
 pieces_judged v = first (piece_rules (full_of v) v)
 
 -- where they are kept the span of the pieces, if it is asked for
-unfoldable pub placed_in : Bool → View → Result Span Verdict
-placed_in spanned v = ruled (pieces_judged v) (cond spanned (span_of (pieces_of v)) no_span)
+unfoldable pub placed_in : Bool → View → Result (Option Span) Verdict
+placed_in spanned v = ruled (pieces_judged v) (cond spanned (Some (span_of (pieces_of v))) None)
 
--- where the value of an entry stands
-abbrev pub value_part : Entry → Part
-value_part e = part e.start e.len
+-- where the value stands of the entry that was found of a tag, if the tag is there
+abbrev pub present_part : Entry → Option Part
+present_part e = cond (not (eqb e.start 0)) (Some (value_part e)) None
 
 -- of the table's entries those of all tags but the ones with one SHORT or LONG, whose values stand in their entries, and of the slots that say where pieces
 -- lie a and b alone; then the head and the directory

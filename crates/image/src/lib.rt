@@ -3,52 +3,89 @@
 // and where 50909 stands more than once. The survey judges some of these, the mask others.
 #![tactic(auto)]
 
-ghost use Rattle.std.specs.Prelude.{◌≡◌, ◌<◌};
+ghost use Rattle.std.specs.Prelude.{◌≡◌, ◌+◌, ◌*◌, ◌≤◌, ◌<◌, ◌==◌, ◌++◌, length};
 ghost use Rattle.outcomes.specs.Ruled.{ruled};
+ghost use Rattle.paper.specs.Bytes.{run};
 ghost use Rattle.paper.specs.Tags.{table};
 ghost use Rattle.paper.specs.Judge.{picture_stage};
 ghost use Rattle.layout.specs.Opening.{LaidAt};
-ghost use Rattle.lines.specs.Ready.{at_slot};
+ghost use Rattle.pieces.specs.Gaps.{Addable, parts_of, named_parts};
+ghost use Rattle.pieces.specs.Reading.{pieces_in, listed};
 ghost use Rattle.tags.specs.Index.{many};
 ghost use Rattle.tags.specs.Tagging.{view_of};
 ghost use Rattle.image.specs.Imaging.{image_in, image_of};
-ghost use Rattle.image.specs.Stages.{value_part, Passed, Fits, placed_in, outer_of};
+ghost use Rattle.image.specs.Naming.{Standing, named_pieces};
+ghost use Rattle.image.specs.Stages.{present_part, Passed, Fits, placed_in, outer_of};
 
 use layout::{Directory, Further};
 use paper::{Entry, Part, Verdict};
-use pieces::{Listing, Places, Span};
+use pieces::{Listing, Places, Run, Span};
 use tags::table::SLOTS;
-use tags::{Pictured, table};
+use tags::{Pictured, Size, table};
 
-// What these rules find of a file: the byte order, the picture's width and length, where the directory stands, the next offset, the span of the pieces where
-// that is not 0, and where the values stand that the survey and the other calls ask for.
+// Where the next offset leads, where it is not 0, and the span of the pieces, which is asked for a mask alone.
+#[derive(Clone, Copy)]
+pub struct Next {
+    pub offset: u32,
+    pub span: Span,
+}
+
+// What these rules find of a file: the byte order, the picture's size, where the directory stands, the next offset if it is not 0, and where the values stand
+// that the survey and the other calls ask for. Of these only the metadata text tells whether it is there: of the others an absent one is as one with no bytes.
 #[derive(Clone, Copy)]
 pub struct Image {
     pub big: bool,
-    pub width: u32,
-    pub length: u32,
+    pub size: Size,
     pub at: usize,
-    pub next: u32,
-    pub span: Span,
+    pub next: Option<Next>,
     pub directory: Part,
     pub doubles: Part,
     pub characters: Part,
     pub scale: Part,
     pub tiepoint: Part,
     pub matrix: Part,
-    pub metadata: Part,
+    pub metadata: Option<Part>,
     pub further: Further,
 }
 
-// Where the value of the tag of slot k stands.
-fn part_at(found: &[Entry; SLOTS], k: usize) -> Part
-    requires { k < many }
-    ensures { result ≡ value_part (at_slot found.now k) }
+// ---- the pieces
+
+// The numbers that an entry of SHORTs or LONGs names.
+fn run_of<'a>(file: &'a [u8], e: Entry) -> Run<'a>
+    requires { e.start + e.len ≤ length file.now }
+    ensures bytes { result.bytes.now ≡ run file.now e.start e.len }
+    ensures wide { result.wide ≡ (e.typ == 4) }
 {
-    let e = found[k];
-    Part {
-        start: e.start,
-        len: e.len,
+    Run {
+        bytes: layout::value(file, layout::part_of(e)),
+        wide: e.typ == lines::LONG,
+    }
+}
+
+// The pieces of a picture, by the entries of its offsets and of its byte counts.
+#[tactic(auto, unfolding(crate::specs::Naming::named_pieces, pieces::specs::Reading::pieces_in))]
+pub fn places<'a>(file: &'a [u8], big: bool, offsets: Entry, bytecounts: Entry) -> Places<'a>
+    requires { Standing file.now offsets bytecounts }
+    ensures { pieces_in result ≡ named_pieces file.now big offsets bytecounts }
+{
+    Places {
+        offsets: run_of(file, offsets),
+        bytecounts: run_of(file, bytecounts),
+        big,
+        many: offsets.count,
+    }
+}
+
+// The reading list of these parts and of those that further entries name.
+#[tactic(auto, unfolding(pieces::specs::Reading::listed))]
+pub fn listing<'a>(file: &'a [u8], big: bool, further: Further, parts: &'a [Part]) -> Listing<'a>
+    requires { (further.start + 12 * further.many ≤ length file.now) × Addable parts.now }
+    ensures { listed result ≡ named_parts big (run file.now further.start (12 * further.many)) further.many ++ parts_of parts.now }
+{
+    Listing {
+        further: further.bytes(file),
+        big,
+        parts,
     }
 }
 
@@ -62,22 +99,22 @@ fn outer(found: &[Entry; SLOTS], a: usize, b: usize, directory: Part) -> [Part; 
     ensures { result ≡ outer_of found.now a b directory }
 {
     [
-        part_at(found, table::BITS),
-        part_at(found, a),
-        part_at(found, b),
-        part_at(found, table::SCALE),
-        part_at(found, table::TIEPOINT),
-        part_at(found, table::MATRIX),
-        part_at(found, table::KEY_DIRECTORY),
-        part_at(found, table::DOUBLES),
-        part_at(found, table::CHARACTERS),
-        part_at(found, table::METADATA),
+        layout::part_of(found[table::BITS]),
+        layout::part_of(found[a]),
+        layout::part_of(found[b]),
+        layout::part_of(found[table::SCALE]),
+        layout::part_of(found[table::TIEPOINT]),
+        layout::part_of(found[table::MATRIX]),
+        layout::part_of(found[table::KEY_DIRECTORY]),
+        layout::part_of(found[table::DOUBLES]),
+        layout::part_of(found[table::CHARACTERS]),
+        layout::part_of(found[table::METADATA]),
         Part { start: 0, len: 8 },
         directory,
     ]
 }
 
-// Rules 13 and 14, over the runs of the pieces' offsets and byte counts, and their span where it is asked for. The reading list is the head, the directory,
+// Rules 13 and 14, over the runs of the pieces' offsets and byte counts, and their span if it is asked for. The reading list is the head, the directory,
 // and what the entries that were found and the further ones of 50909 say.
 fn judge_pieces(
     file: &[u8],
@@ -86,34 +123,25 @@ fn judge_pieces(
     found: &[Entry; SLOTS],
     further: Further,
     spanned: bool,
-) -> Result<Span, Verdict>
+) -> Result<Option<Span>, Verdict>
     requires { Fits file.now d.big d.at d.count picture found.now further }
     ensures { result ≡ placed_in spanned (view_of table file.now d.big d.at d.count) }
 {
     let a = tags::offsets_slot(picture.tiled);
     let b = tags::byte_counts_slot(picture.tiled);
-    let offsets = found[a];
-    let bytecounts = found[b];
-    let places = Places {
-        offsets: layout::value(file, offsets.start, offsets.len),
-        wideoffsets: offsets.typ == lines::LONG,
-        bytecounts: layout::value(file, bytecounts.start, bytecounts.len),
-        widebytecounts: bytecounts.typ == lines::LONG,
-        big: d.big,
-        many: offsets.count,
-    };
-    let directory = Part {
-        start: d.at,
-        len: 2 + 12 * d.count + 4,
-    };
-    let parts = outer(found, a, b, directory);
-    let list = Listing {
-        further: layout::value(file, further.start, 12 * further.many),
-        big: d.big,
-        many: further.many,
-        parts: &parts,
-    };
+    let places = places(file, d.big, found[a], found[b]);
+    let parts = outer(found, a, b, d.part());
+    let list = listing(file, d.big, further, &parts);
     pieces::judge_places(&places, file.len(), &list, spanned)
+}
+
+// ---- the image
+
+// Where the value of a tag stands that may be absent.
+fn part_if(e: Entry) -> Option<Part>
+    ensures { result ≡ present_part e }
+{
+    (e.start != 0).then_some(layout::part_of(e))
 }
 
 // Rules 27 and 9 to 14, from what was found of the directory's entries.
@@ -131,18 +159,16 @@ fn image_found(
     let span = judge_pieces(file, d, picture, found, further, next != 0)?;
     Ok(Image {
         big: d.big,
-        width: picture.width,
-        length: picture.length,
+        size: picture.size,
         at: d.at,
-        next,
-        span,
-        directory: part_at(found, table::KEY_DIRECTORY),
-        doubles: part_at(found, table::DOUBLES),
-        characters: part_at(found, table::CHARACTERS),
-        scale: part_at(found, table::SCALE),
-        tiepoint: part_at(found, table::TIEPOINT),
-        matrix: part_at(found, table::MATRIX),
-        metadata: part_at(found, table::METADATA),
+        next: span.map(|span| Next { offset: next, span }),
+        directory: layout::part_of(found[table::KEY_DIRECTORY]),
+        doubles: layout::part_of(found[table::DOUBLES]),
+        characters: layout::part_of(found[table::CHARACTERS]),
+        scale: layout::part_of(found[table::SCALE]),
+        tiepoint: layout::part_of(found[table::TIEPOINT]),
+        matrix: layout::part_of(found[table::MATRIX]),
+        metadata: part_if(found[table::METADATA]),
         further,
     })
 }
@@ -153,17 +179,9 @@ fn image_laid(file: &[u8], d: Directory) -> Result<Image, Verdict>
     ensures { result ≡ image_of file.now }
 {
     let mut found = [layout::ABSENT; SLOTS];
-    let s = layout::scan(
-        &table::CELLS,
-        table::FACTOR,
-        d.bytes(file),
-        d,
-        file.len(),
-        &mut found,
-    );
-    if s.verdict.number != 0 {
-        return Err(s.verdict);
-    }
+    let entries = d.entries(file);
+    let s = entries.scan(&table::CELLS, table::FACTOR, file.len(), &mut found);
+    s.judged?;
     image_found(file, d, s.next, &found, s.further)
 }
 

@@ -7,37 +7,44 @@ use mathlib.Core.List.{List}
 use lib.Dec.{eqb, lit<}
 use lib.ListN.{length}
 use borrow.Author.Rules.{rules}
-use borrow.Author.Tests.{eq-eqb, ne_eqb}
-use Rattle.std.specs.Prelude.{Result, Ok, Err}
+use Rattle.std.specs.Prelude.{Result, Ok, Err, Some, None}
+use Rattle.std.proofs.lemmas.Option.{same_Some}
 use Rattle.paper.specs.Bytes.{run}
 use Rattle.paper.specs.Tag
 use Rattle.paper.specs.Tags.{table, bytes_of}
 use Rattle.paper.specs.declared.Part.{Part}
 use Rattle.paper.specs.Outcome.{verdict, first}
-use Rattle.paper.specs.Judge.{view, view_at, head_in, next_in, runs_of, survey_of, survey_rules, image_stage, survey_stage, file_stage, mask_stage, verdict_of}
+use Rattle.paper.specs.Judge.{view, view_at, head_in, next_in, pieces_of, runs_of, survey_of, survey_rules, image_stage, survey_stage, file_stage, mask_stage, verdict_of}
 use Rattle.paper.specs.Judge.{has_mask, mask_verdict, rule28}
 use Rattle.paper.specs.declared.Verdict.{Verdict}
+use Rattle.paper.proofs.First.{chain-both}
+use Rattle.pieces.specs.Spans.{span_of}
 use Rattle.outcomes.specs.Ruled.{ruled}
 use Rattle.outcomes.proofs.Ruled.{first-refuses, first-kept, found-ruled, kept-ruled, other-refuses}
 use Rattle.tags.specs.Index
 use Rattle.tags.specs.Slots.{line_at, tag_at}
 use Rattle.keys.specs.Pass.{runs}
 use Rattle.ground.specs.Answer.{Sized}
-use Rattle.image.specs.Imaging.{tag_part, image_in, image_of}
+use Rattle.image.specs.Imaging.{tag_part, next_of, image_in, image_of}
 use Rattle.image.specs.declared.Image.{Image}
+use Rattle.image.specs.declared.Next.{Next}
 use Rattle.mask.specs.Masking.{numbered}
 use Rattle.second.specs.Before.{Before}
 use Rattle.survey.specs.Surveying.{surveyed_of, survey_found}
 use Rattle.survey.specs.declared.Surveyed.{Surveyed}
-use Rattle.judge.specs.Examining.{examined_in, examined_of, own_in, own_of}
-use Rattle.judge.specs.declared.Own.{Own}
+use Rattle.judge.specs.Examining.{own_image, examined_in, examined_of, own_of}
+use Rattle.judge.specs.declared.Examined.{Examined}
 use Rattle.image.proofs.Seen.{Stands, image-stands}
 use Rattle.judge.proofs.Seen.{sized}
 
 -- the image refuses
 pub image-bad : (f : List ℕ) {e : Verdict} → Err e ≡ image_of f → Err e ≡ own_of f
 unfolding image_of own_of file_stage
-image-bad f h = first-refuses (image_stage f) (survey_stage (view f)) _ (own_in f) _ h
+image-bad f h = first-refuses (image_stage f) (survey_stage (view f)) _ (examined_in f) _ h
+
+-- where the next offset leads, if it is not 0
+abbrev ahead : List ℕ → Next
+ahead f = record { offset = next_in f (head_in f); span = span_of (pieces_of (view f)) }
 
 -- a part that lies in the file, and the bytes that it names
 pub record Names (f : List ℕ) (p : Part) (bytes : List ℕ) : Type 0 where
@@ -49,7 +56,7 @@ module _ (f : List ℕ) {i : Image} (is : Ok i ≡ image_of f) where
   unfolding image_of
   image-zero = (found-ruled (image_stage f) _ i is).0
 
-  here : i ≡ image_in (view f) (next_in f (head_in f))
+  here : i ≡ own_image f
   unfolding image_of
   here = (found-ruled (image_stage f) _ i is).1
 
@@ -92,109 +99,79 @@ module _ (f : List ℕ) {i : Image} (is : Ok i ≡ image_of f) where
     runs-sized =
         rw (s ∙ scale-named.bytes_are, t ∙ tiepoint-named.bytes_are, m ∙ matrix-named.bytes_are) (sized f image-zero)
 
-    module _ {r : Result Surveyed Verdict} (so : r ≡ surveyed_of (runs i.big directory doubles characters) scale tiepoint matrix i.width i.length) where
+    module _ {r : Result Surveyed Verdict} (so : r ≡ surveyed_of (runs i.big directory doubles characters) scale tiepoint matrix i.size.width i.size.length) where
       survey-is : r ≡ ruled (survey_stage (view f)) (survey_found (runs_of (view f)) (survey_of (view f)))
       unfolding surveyed_of survey_stage survey_rules runs_of survey_of image_in
       survey-is =
           so
           ∙ (λ k. surveyed_of
           (runs (here k).big ((d ∙ directory-named.bytes_are) k) ((x ∙ doubles-named.bytes_are) k) ((ch ∙ characters-named.bytes_are) k))
-          ((s ∙ scale-named.bytes_are) k) ((t ∙ tiepoint-named.bytes_are) k) ((m ∙ matrix-named.bytes_are) k) (here k).width (here k).length)
+          ((s ∙ scale-named.bytes_are) k) ((t ∙ tiepoint-named.bytes_are) k) ((m ∙ matrix-named.bytes_are) k) (here k).size.width (here k).size.length)
 
-      left : own_of f ≡ ruled (survey_stage (view f)) (own_in f)
+      left : own_of f ≡ ruled (survey_stage (view f)) (examined_in f)
       unfolding own_of file_stage image_of
-      left = first-kept (image_stage f) (survey_stage (view f)) _ i (own_in f) is
+      left = first-kept (image_stage f) (survey_stage (view f)) _ i (examined_in f) is
 
       -- the survey refuses
       pub survey-bad : {e : Verdict} → Err e ≡ r → Err e ≡ own_of f
-      survey-bad h = other-refuses (survey_stage (view f)) _ (own_in f) _ (h ∙ survey-is) ∙ sym left
+      survey-bad h = other-refuses (survey_stage (view f)) _ (examined_in f) _ (h ∙ survey-is) ∙ sym left
 
       -- neither refuses
-      pub both-good : {j : Surveyed} → Ok j ≡ r
-          → Ok (record {
-            examined =
-                record {
-                  surveyed = j;
-                  big = i.big;
-                  width = i.width;
-                  length = i.length;
-                  directory = i.directory;
-                  doubles = i.doubles;
-                  characters = i.characters;
-                  metadata = i.metadata;
-                  further = i.further;
-                };
-            at = i.at;
-            next = i.next;
-            span = i.span;
-          })
-          ≡ own_of f
-      unfolding own_in examined_in image_in view view_at
+      pub both-good : {j : Surveyed} → Ok j ≡ r → Ok (record { surveyed = j; image = i }) ≡ own_of f
+      unfolding examined_in
       both-good {j} h =
           let w = found-ruled (survey_stage (view f)) _ j (h ∙ survey-is) in
-          (λ k. Ok (record {
-            examined =
-                record {
-                  surveyed = w.1 k;
-                  big = (here k).big;
-                  width = (here k).width;
-                  length = (here k).length;
-                  directory = (here k).directory;
-                  doubles = (here k).doubles;
-                  characters = (here k).characters;
-                  metadata = (here k).metadata;
-                  further = (here k).further;
-                };
-            at = (here k).at;
-            next = (here k).next;
-            span = (here k).span;
-          }))
-          ∙ sym (left ∙ kept-ruled (survey_stage (view f)) (own_in f) w.0)
+          (λ k. Ok (record { surveyed = w.1 k; image = here k }))
+          ∙ sym (left ∙ kept-ruled (survey_stage (view f)) (examined_in f) w.0)
 
--- ---- and then the mask
+  -- ---- and then the mask
 
--- the file's own rules refuse
-pub own-bad : (f : List ℕ) {e : Verdict} → Err e ≡ own_of f → Err e ≡ examined_of f
-unfolding own_of examined_of verdict_of
-own-bad f h = first-refuses (file_stage f) (mask_stage f) _ _ _ h
+  next-is : i.next ≡ next_of (view f) (next_in f (head_in f))
+  unfolding image_in
+  next-is = ap (λ (x : Image). x.next) here
 
-module _ (f : List ℕ) {o : Own} (is : Ok o ≡ own_of f) where
-  own-zero : (file_stage f).number ≡ 0
-  unfolding own_of
-  own-zero = (found-ruled (file_stage f) _ o is).0
+  -- there is none
+  alone : i.next ≡ None → Ok (tt {0}) ≡ ruled (mask_stage f) (tt {0})
+  unfolding mask_stage rule28 has_mask first ruled next_of
+  alone n = go (eqb (next_in f (head_in f)) 0) refl (sym n ∙ next-is)
+    where
+      go : (b : Bool) → eqb (next_in f (head_in f)) 0 ≡ b
+          → None ≡ cond b None (Some (ahead f))
+          → Ok (tt {0}) ≡ ruled (mask_stage f) (tt {0})
+      go true q e = rw q refl
+      go false q e = search (rules, e)
 
-  here-own : o ≡ own_in f
-  unfolding own_of
-  here-own = (found-ruled (file_stage f) _ o is).1
-
-  left-mask : examined_of f ≡ ruled (mask_stage f) (examined_in (view f))
-  unfolding own_of examined_of verdict_of
-  left-mask = first-kept (file_stage f) (mask_stage f) _ o _ is
-
-  -- there is no mask
-  pub alone : o.next ≡ 0 → Ok o.examined ≡ examined_of f
-  unfolding own_in mask_stage rule28 has_mask first ruled
-  alone z =
-      let n : next_in f (head_in f) ≡ 0 = ap (λ (x : Own). x.next) (sym here-own) ∙ z in
-      ap (λ (x : Own). Ok x.examined) here-own ∙ sym (left-mask ∙ rw (eq-eqb (next_in f (head_in f)) 0 n) refl)
-
-  module _ (n : o.next ≡ 0 → ⊥) where
+  module _ {n : Next} (e : i.next ≡ Some n) where
     next-some : eqb (next_in f (head_in f)) 0 ≡ false
-    unfolding own_in
-    next-some = ap (λ (x : Own). eqb x.next 0) (sym here-own) ∙ ne_eqb o.next 0 n
+    unfolding next_of
+    next-some = go (eqb (next_in f (head_in f)) 0) refl (sym e ∙ next-is)
+      where
+        go : (b : Bool) → eqb (next_in f (head_in f)) 0 ≡ b
+            → Some n ≡ cond b None (Some (ahead f))
+            → eqb (next_in f (head_in f)) 0 ≡ false
+        go true q x = search (rules, x)
+        go false q x = q
+
+    leads : n ≡ ahead f
+    unfolding next_of
+    leads = go (eqb (next_in f (head_in f)) 0) (sym e ∙ next-is)
+      where
+        go : (b : Bool) → Some n ≡ cond b None (Some (ahead f)) → n ≡ ahead f
+        go true x = search (rules, x)
+        go false x = same_Some _ _ x
 
     -- what the mask is asked with
-    pub before : Before f (record { big = o.examined.big; at = o.at; next = o.next; width = o.examined.width; length = o.examined.length; span = o.span })
-    unfolding own_in examined_in view view_at
-    before =
+    pub mask-asked : (file_stage f).number ≡ 0 → Before f i n
+    unfolding image_in view view_at
+    mask-asked z =
         record {
-          own = own-zero;
-          big_is = ap (λ (x : Own). x.examined.big) here-own;
-          at_is = ap (λ (x : Own). x.at) here-own;
-          next_is = ap (λ (x : Own). x.next) here-own;
-          width_is = ap (λ (x : Own). x.examined.width) here-own;
-          length_is = ap (λ (x : Own). x.examined.length) here-own;
-          span_is = ap (λ (x : Own). x.span) here-own ∙ rw next-some;
+          own = z;
+          big_is = ap (λ (x : Image). x.big) here;
+          at_is = ap (λ (x : Image). x.at) here;
+          width_is = ap (λ (x : Image). x.size.width) here;
+          length_is = ap (λ (x : Image). x.size.length) here;
+          next_is = ap (λ (x : Next). x.offset) leads;
+          span_is = ap (λ (x : Next). x.span) leads;
         }
 
     module _ {r : Result (Unit {0}) ℕ} (is_r : r ≡ numbered (mask_verdict f) (tt {0})) where
@@ -209,24 +186,55 @@ module _ (f : List ℕ) {o : Own} (is : Ok o ≡ own_of f) where
         where
           go : (b : Bool) → eqb (mask_verdict f).number 0 ≡ b → Err m ≡ cond b (Ok (tt {0})) (Err (mask_verdict f).number)
               → Err (verdict 28 m) ≡ ruled (mask_stage f) (tt {0})
-          go true q e = search (rules, e)
-          go false q e = let s : m ≡ (mask_verdict f).number = ap (number-in m) e in rw (next-some, q, s) refl
+          go true q x = search (rules, x)
+          go false q x = let s : m ≡ (mask_verdict f).number = ap (number-in m) x in rw (next-some, q, s) refl
 
       -- it does not
-      pub mask-good : {x : Unit {0}} → Ok x ≡ r → Ok x ≡ ruled (mask_stage f) (tt {0})
+      pub mask-good : {x : Unit {0}} → Ok x ≡ r → Ok (tt {0}) ≡ ruled (mask_stage f) (tt {0})
       unfolding mask_stage rule28 has_mask first numbered ruled
       mask-good {x} h = go (eqb (mask_verdict f).number 0) refl (h ∙ is_r)
         where
-          go : (b : Bool) → eqb (mask_verdict f).number 0 ≡ b → Ok x ≡ cond b (Ok (tt {0})) (Err (mask_verdict f).number) → Ok x ≡ ruled (mask_stage f) (tt {0})
-          go true q e = rw (next-some, q) refl
-          go false q e = search (rules, e)
+          go : (b : Bool) → eqb (mask_verdict f).number 0 ≡ b → Ok x ≡ cond b (Ok (tt {0})) (Err (mask_verdict f).number)
+              → Ok (tt {0}) ≡ ruled (mask_stage f) (tt {0})
+          go true q y = rw (next-some, q) refl
+          go false q y = search (rules, y)
+
+-- ---- the whole
+
+-- the file's own rules refuse
+pub own-bad : (f : List ℕ) {e : Verdict} → Err e ≡ own_of f → Err e ≡ examined_of f
+unfolding own_of examined_of verdict_of
+own-bad f h = first-refuses (file_stage f) (mask_stage f) _ _ _ h
+
+module _ (f : List ℕ) {e : Examined} (is : Ok e ≡ own_of f) where
+  pub own-zero : (file_stage f).number ≡ 0
+  unfolding own_of
+  own-zero = (found-ruled (file_stage f) _ e is).0
+
+  here-own : e ≡ examined_in f
+  unfolding own_of
+  here-own = (found-ruled (file_stage f) _ e is).1
+
+  -- the image is the file's
+  pub own-image-is : Ok e.image ≡ image_of f
+  unfolding image_of examined_in file_stage
+  own-image-is =
+      ap (λ (x : Examined). Ok x.image) here-own
+      ∙ sym (kept-ruled (image_stage f) (own_image f) (chain-both (image_stage f) (survey_stage (view f)) own-zero).0)
+
+  left-mask : examined_of f ≡ ruled (mask_stage f) (examined_in f)
+  unfolding own_of examined_of verdict_of
+  left-mask = first-kept (file_stage f) (mask_stage f) _ e _ is
 
   -- what rule 28 says is then the file's
-  pub refused-mask : {e : Verdict} → Err e ≡ ruled (mask_stage f) (tt {0}) → Err e ≡ examined_of f
-  refused-mask {e} h = other-refuses (mask_stage f) (tt {0}) (examined_in (view f)) e h ∙ sym left-mask
+  pub refused-mask : {v : Verdict} → Err v ≡ ruled (mask_stage f) (tt {0}) → Err v ≡ examined_of f
+  refused-mask {v} h = other-refuses (mask_stage f) (tt {0}) (examined_in f) v h ∙ sym left-mask
 
-  pub kept-mask : {x : Unit {0}} → Ok x ≡ ruled (mask_stage f) (tt {0}) → Ok o.examined ≡ examined_of f
-  unfolding own_in
+  pub kept-mask : {x : Unit {0}} → Ok x ≡ ruled (mask_stage f) (tt {0}) → Ok e ≡ examined_of f
   kept-mask {x} h =
-      ap (λ (y : Own). Ok y.examined) here-own
-      ∙ sym (left-mask ∙ kept-ruled (mask_stage f) (examined_in (view f)) (found-ruled (mask_stage f) (tt {0}) x h).0)
+      ap (λ (y : Examined). Ok y) here-own
+      ∙ sym (left-mask ∙ kept-ruled (mask_stage f) (examined_in f) (found-ruled (mask_stage f) (tt {0}) x h).0)
+
+  -- and there is no mask
+  pub unmasked : e.image.next ≡ None → Ok e ≡ examined_of f
+  unmasked n = kept-mask (alone f own-image-is n)

@@ -1,19 +1,19 @@
 -- An accepted file: what its image says holds, and what its examination found is what the paper's view of it shows. Assumes nothing.
 use Prim.Native.Nat.{ℕ, ◌+◌, ◌-◌, ◌≤◌, ◌<◌}
 use mathlib.Core.Path.{◌≡◌, refl, sym, ap, ◌∙◌}
-use mathlib.Core.Bool.{Bool, true, false, cond, not}
+use mathlib.Core.Bool.{Bool, true, false, cond}
 use mathlib.Core.Logic.{◌⊎◌, inl, inr}
 use mathlib.Core.List.{List}
 use lib.Dec.{eqb}
 use lib.ListN.{length, get_or}
 use Rattle.std.specs.Prelude.{Ok, Err}
 use Rattle.paper.specs.Outcome.{◌▷◌}
-use Rattle.paper.specs.Tags.{Held, find, has, bytes_of}
+use Rattle.paper.specs.Tags.{Held, bytes_of}
 use Rattle.paper.specs.Judge.{view, head_in, count_in, entries_in, verdict_of}
 use Rattle.paper.specs.Judge.{survey_stage, image_stage, mask_stage}
 use Rattle.paper.specs.Calls.{judged_of, judged_in, answer}
 use Rattle.paper.proofs.First.{chain-both, verdict-turned}
-use Rattle.image.proofs.Seen.{Stands, Helds, file-size, later-stands, later-inside, held-is, known, image-stands, image-present}
+use Rattle.image.proofs.Seen.{Stands, Helds, file-size, later-stands, later-inside, held-is, known, image-stands}
 use Rattle.paper.specs.declared.Entry.{Entry}
 use Rattle.paper.specs.declared.Verdict.{Verdict}
 use Rattle.paper.specs.Tag
@@ -62,9 +62,6 @@ module _ (f : List ℕ) (zero : (verdict_of f).number ≡ 0) where
   pub stands : (k : ℕ) → k < Index.many → Stands f (view f).held (tag_at k)
   stands = image-stands f image-zero
 
-  pub present : (k : ℕ) → k < Index.many → has (tag_at k) (view f).held ≡ not (eqb (find (tag_at k) (view f).held).entry.start 0)
-  present = image-present f image-zero
-
   pub further-stands : FurtherHolds f (head_in f).big (head_in f).at (count_in f (head_in f)) (further_of (head_in f).at (entries_in f (head_in f)))
   further-stands = later-stands f image-zero
 
@@ -78,7 +75,7 @@ pub accepted : (f : List ℕ) (e : Examined) → Ok e ≡ examined_of f → (ver
 unfolding examined_of
 accepted f e is = (found-ruled (verdict_of f) _ e is).0
 
-pub found : (f : List ℕ) (e : Examined) → Ok e ≡ examined_of f → e ≡ examined_in (view f)
+pub found : (f : List ℕ) (e : Examined) → Ok e ≡ examined_of f → e ≡ examined_in f
 unfolding examined_of
 found f e is = (found-ruled (verdict_of f) _ e is).1
 

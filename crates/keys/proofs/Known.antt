@@ -1,12 +1,15 @@
 -- The key table's rules, each one test that is computed over the whole table: it ascends, each entry has the kind of its key, and each known key
 -- stands at its slot, so that what does not stand there is no known key. Assumes nothing.
-use Prim.Native.Nat.{ℕ, ◌<◌, ◌≤◌}
+use Prim.Native.Nat.{ℕ, ◌<◌}
 use mathlib.Core.Path.{◌≡◌, refl, sym, ap, ◌∙◌}
-use mathlib.Core.Bool.{Bool, true, false, ◌&&◌, true≢false, and-false}
+use mathlib.Core.Bool.{Bool, true, false, ◌&&◌, true≢false}
 use mathlib.Core.List.{List, [], ◌∷◌, map}
 use lib.Dec.{eqb, ltb}
 use lib.ListN.{get_or, get_or-map}
-use borrow.Author.Tests.{eqb-true, ne_eqb, le-ltb}
+use borrow.Author.Tests.{eqb-true, ne_eqb}
+use native.Mathlib.Omega.{arith}
+use Rattle.std.proofs.lemmas.Bool.Decides.{nat_tests}
+use Rattle.std.specs.Prelude.{Option, Some, None, IfSome}
 use Rattle.paper.specs.Outcome.{ascending, ordered, ordered_from}
 use Rattle.paper.specs.Tests.{all}
 use Rattle.paper.specs.Keys.{Known, known, known_keys, kind_in, kind_of, short_kind, other_kind}
@@ -38,9 +41,14 @@ each_right = refl
 abbrev at : ℕ → ℕ × Kind
 at p = get_or KNOWN p (0, Short)
 
+-- whether a key stands at a place, if there is one
+abbrev stands : ℕ → Option ℕ → Bool
+stands k None = false
+stands k (Some p) = ltb p 45 && eqb (at p).0 k
+
 -- each known key stands at its slot
 abbrev there : ℕ → Bool
-there k = ltb (slot_of k) 45 && eqb (at (slot_of k)).0 k
+there k = stands k (slot_of k)
 
 each-there : all (λ x. there x.key) known_keys ≡ true
 unfolding all known_keys slot_of
@@ -68,12 +76,10 @@ found k p w h is-w e =
     let r : right (numbered (at p)) ≡ true = rw t at (all-at right known_keys (known 0 short_kind) each_right p h) in
     sym (eqb-true _ _ r) ∙ ap kind_of (sym is-w ∙ e)
 
-pub other : (k p w : ℕ) → p ≡ slot_of k → w ≡ (at p).0 → (w ≡ k → ⊥) → other_kind ≡ kind_of k
-other k p w e is-w n =
-    let f : eqb (at (slot_of k)).0 k ≡ false = rw (is-w, e) at (ne_eqb w k n) in
-    sym (unknown k (rw f (and-false (ltb (slot_of k) 45))))
-
-pub past : (k p : ℕ) → p ≡ slot_of k → 45 ≤ p → other_kind ≡ kind_of k
-past k p e h =
-    let g : ltb (slot_of k) 45 ≡ false = rw e at (le-ltb p 45 h) in
-    sym (unknown k (rw g))
+-- at no place, past the table's end, or where another key stands
+pub other : (k : ℕ) → IfSome (slot_of k) (λ p. p < 45 → (at p).0 ≡ k → ⊥) → other_kind ≡ kind_of k
+other k h = sym (unknown k (go (slot_of k) h))
+  where
+    go : (o : Option ℕ) → IfSome o (λ p. p < 45 → (at p).0 ≡ k → ⊥) → stands k o ≡ false
+    go None h = refl
+    go (Some p) h = grind (arith, nat_tests)

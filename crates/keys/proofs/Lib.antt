@@ -5,5 +5,3 @@ pub mod Head
 pub mod Placed
 pub mod Turn
 pub mod Rows
-pub mod Judged
-pub mod Answers

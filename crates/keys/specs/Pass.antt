@@ -10,7 +10,6 @@ use Rattle.paper.specs.Keys.{Runs, minor_revision, key_count, key_at, keys, key_
 use Rattle.paper.specs.declared.Verdict.{Verdict}
 use Rattle.paper.specs.declared.KeyEntry.{KeyEntry}
 use Rattle.keys.specs.declared.KeysJudged.{KeysJudged}
-use Rattle.keys.specs.declared.Header.{Header}
 use Rattle.keys.specs.declared.Values.{Values}
 use Rattle.keys.specs.declared.Found.{Found}
 use Rattle.outcomes.specs.Ruled.{ruled}
@@ -27,9 +26,17 @@ lent v = lent_in false v
 
 -- ---- the header
 
--- minor revision and K, where rule 15 is kept
-unfoldable pub header_of : Runs → Result Header Verdict
-header_of r = ruled (first (15 ▸ rule15 r ∷ [])) (record { minor = minor_revision r; count = key_count r })
+-- minor revision and K
+pub record Head : Type 0 where
+  pub minor : ℕ
+  pub count : ℕ
+
+abbrev pub head_of : ℕ → ℕ → Head
+head_of m k = record { minor = m; count = k }
+
+-- where rule 15 is kept
+unfoldable pub header_of : Runs → Result Head Verdict
+header_of r = ruled (first (15 ▸ rule15 r ∷ [])) (head_of (minor_revision r) (key_count r))
 
 -- ---- the answer
 
@@ -45,7 +52,7 @@ abbrev pub entry_rules : Runs → List KeyEntry → List Rule
 entry_rules r ks = 16 ▸ rule16 ks ∷ 17 ▸ rule17 r ks ∷ 18 ▸ rule18 ks ∷ 19 ▸ rule19 ks ∷ []
 
 -- the answer of the rules after 15, behind a header
-unfoldable pub entries_judged : Runs → Header → Result KeysJudged Verdict
+unfoldable pub entries_judged : Runs → Head → Result KeysJudged Verdict
 entries_judged r h =
     let ks : List KeyEntry = build (key_at r) 0 h.count in
     ruled (first (entry_rules r ks)) (record { keys = h.count; minor = h.minor; point = eqb (key_value Key.raster_type ks) 2 })
@@ -138,7 +145,7 @@ allowed f =
     (cond (wrong heights f.vertical) (broken Key.vertical_crs) kept))))))
 
 -- the answer from the outcomes of rules 16 and 17 and the numbers found
-unfoldable pub finished : Outcome → Outcome → Found → Header → Result KeysJudged Verdict
+unfoldable pub finished : Outcome → Outcome → Found → Head → Result KeysJudged Verdict
 finished sixteen seventeen f h =
     ruled
     (first (16 ▸ sixteen ∷ 17 ▸ seventeen ∷ 18 ▸ needed f ∷ 19 ▸ allowed f ∷ []))

@@ -2,13 +2,14 @@
 // the last key entry to the first finds what rules 16 to 19 ask for.
 #![tactic(auto)]
 
-ghost use Rattle.std.specs.Prelude.{◌≡◌, IfSome, [], ◌∷◌, ◌+◌, ◌*◌, ◌≤◌, ◌<◌, length};
+ghost use Rattle.std.specs.Prelude.{◌≡◌, IfSome, IfOk, [], ◌∷◌, ◌+◌, ◌*◌, ◌≤◌, ◌<◌, length};
+ghost use Rattle.std.specs.Result.{result_map_both};
 ghost use Rattle.paper.specs.Tests.{just};
 ghost use Rattle.paper.specs.Keys.{kind_of, key_at, room, in_entry, within, right_place};
 ghost use Rattle.paper.specs.Calls.{row_of};
 ghost use Rattle.keys.specs.Rows.{starts_in, RowAsked};
 ghost use Rattle.keys.specs.Table.{number, slot_of};
-ghost use Rattle.keys.specs.Pass.{runs, lent, lent_in, header_of, keys_judged, entries_judged};
+ghost use Rattle.keys.specs.Pass.{runs, lent, lent_in, header_of, head_of, keys_judged, entries_judged};
 ghost use Rattle.keys.specs.Pass.{found_with, needed, wrong, one_or_two, zones, heights, allowed, rise_of, place_of, finished};
 
 use paper::{KeyEntry, Outcome, Row, Verdict};
@@ -21,11 +22,11 @@ pub struct KeysJudged {
     pub point: bool,
 }
 
-// What the key directory's header tells: the minor revision and K.
+// What the key directory's header tells: the minor revision, and the K key entries.
 #[derive(Clone, Copy)]
-struct Header {
+struct Header<'a> {
     minor: u32,
-    count: usize,
+    entries: Entries<'a>,
 }
 
 // Where the values of 34735, 34736 and 34737 start in the file.
@@ -38,13 +39,14 @@ pub struct Starts {
 
 // The values of 34735, 34736 and 34737; an absent tag is an empty run.
 #[derive(Clone, Copy)]
-struct Values<'a> {
-    directory: &'a [u8],
-    doubles: &'a [u8],
-    characters: &'a [u8],
+pub struct Values<'a> {
+    pub directory: &'a [u8],
+    pub doubles: &'a [u8],
+    pub characters: &'a [u8],
 }
 
-// Where a value may stand outside its entry: in the key directory, the doubles or the characters.
+// Where a value may stand outside its entry: in the key directory, the doubles or the characters. These are numbers and no type of their own: an entry's location is
+// any number that stands in the file, and the definitions ask of the number.
 pub const DIRECTORY: usize = 34735;
 
 pub const DOUBLES: usize = 34736;
@@ -125,28 +127,32 @@ pub static KNOWN: [(u16, Kind); 45] = [
     (4099, Kind::Short),
 ];
 
-// Where a key stands in the table, if it is a known one: these are four rows without a gap.
+// Where a key would stand in the table, by its row: these are four rows without a gap. Below the first row it has no place; behind the end of a row its place is
+// another key's or past the table, which `kind_of` asks. The place is computed, since a search over the 45 keys would compare more.
 #[tactic(auto, unfolding(crate::specs::Table::slot_of))]
-fn slot(key: usize) -> usize
+fn slot(key: usize) -> Option<usize>
     ensures { result ≡ slot_of key }
 {
     if key < 2048 {
-        if key < 1024 { 45 } else { key - 1024 }
+        if key < 1024 { None } else { Some(key - 1024) }
     } else if key < 3072 {
-        key - 2048 + 3
+        Some(key - 2048 + 3)
     } else if key < 4096 {
-        key - 3072 + 17
+        Some(key - 3072 + 17)
     } else {
-        key - 4096 + 41
+        Some(key - 4096 + 41)
     }
 }
 
 // The kind of a key.
+#[tactic(auto, using(crate::proofs::Known::other))]
 pub fn kind_of(key: usize) -> Kind
     ensures { number result ≡ kind_of key }
 {
-    let at = slot(key);
-    if at < 45 {
+    let Some(at) = slot(key) else {
+        return Kind::Other;
+    };
+    if at < KNOWN.len() {
         let (known, kind) = KNOWN[at];
         if usize::from(known) == key {
             return kind;
@@ -160,12 +166,10 @@ pub fn kind_of(key: usize) -> Kind
 // Rule 15: the header's four numbers, and room for K entries. Minor revision 0 or 1 is allowed, and the one that was found is told.
 #[tactic(auto, unfolding(crate::specs::Pass::header_of, outcomes::specs::Ruled::ruled, paper::specs::Outcome::first, paper::specs::Keys::rule15, paper::specs::Keys::short, paper::specs::Keys::minor_revision, paper::specs::Keys::key_count))]
 fn read_header(big: bool, directory: &[u8]) -> Result<Header, Verdict>
-    ensures { result ≡ header_of (runs big directory.now [] []) }
+    ensures header { result_map_both (λ h. head_of h.minor h.entries.count) (λ v. v) result ≡ header_of (runs big directory.now [] []) }
+    ensures entries { IfOk result (λ h. (h.entries.directory.now ≡ directory.now) × (h.entries.big ≡ big)) }
 {
-    let refused = Err(Verdict {
-        number: 15,
-        place: 0,
-    });
+    let refused = outcomes::refused(15, 0);
     if directory.len() < 8 {
         return refused;
     }
@@ -179,13 +183,17 @@ fn read_header(big: bool, directory: &[u8]) -> Result<Header, Verdict>
     }
     Ok(Header {
         minor: minor as u32,
-        count,
+        entries: Entries {
+            directory,
+            big,
+            count,
+        },
     })
 }
 
 // ---- one key entry
 
-// Key entry i, counted from 0.
+// Key entry i, counted from 0. Its bounds stand in contracts, here and below: a KeyEntry is plain, as definitions tell one.
 #[tactic(auto, unfolding(paper::specs::Keys::key_at, paper::specs::Keys::short))]
 pub fn entry_at(directory: &[u8], big: bool, i: usize) -> KeyEntry
     requires { (i < 256) × (8 * i + 16 ≤ length directory.now) }
@@ -197,6 +205,26 @@ pub fn entry_at(directory: &[u8], big: bool, i: usize) -> KeyEntry
         location: order::short(directory, big, at + 10),
         count: order::short(directory, big, at + 12),
         index: order::short(directory, big, at + 14),
+    }
+}
+
+// So many key entries of a directory, which all stand in it.
+#[derive(Clone, Copy)]
+pub struct Entries<'a> {
+    pub directory: &'a [u8],
+    pub big: bool,
+    pub count: usize,
+    pub ghost few: { count ≤ 256 },
+    pub ghost whole: { 8 + 8 * count ≤ length directory.now },
+}
+
+impl<'a> Entries<'a> {
+    // Entry i, counted from 0.
+    pub fn at(self, i: usize) -> KeyEntry
+        requires { i < self.count }
+        ensures { (result ≡ key_at (runs self.entry.big self.entry.directory.now [] []) i) × (result.key < 65536) × (result.location < 65536) × (result.count < 65536) × (result.index < 65536) }
+    {
+        entry_at(self.directory, self.big, i)
     }
 }
 
@@ -371,14 +399,14 @@ fn allowed_values(found: Found) -> Outcome
 // ---- the judgement
 
 // The whole answer, from what the pass found.
+#[tactic(auto, unfolding(crate::specs::Pass::finished, paper::specs::Outcome::first, outcomes::specs::Ruled::ruled))]
 fn finish(
     sixteen: Outcome,
     seventeen: Outcome,
     found: Found,
     head: Header,
 ) -> Result<KeysJudged, Verdict>
-    requires { head.count < 4294967296 }
-    ensures { result ≡ finished sixteen seventeen found head }
+    ensures { result ≡ finished sixteen seventeen found (head_of head.entry.minor head.entry.entries.count) }
 {
     outcomes::rule(16, sixteen)?;
     outcomes::rule(17, seventeen)?;
@@ -387,7 +415,7 @@ fn finish(
     // Rule 19: the numbers of the keys are allowed ones.
     outcomes::rule(19, allowed_values(found))?;
     Ok(KeysJudged {
-        keys: head.count as u32,
+        keys: head.entries.count as u32,
         minor: head.minor,
         point: found.raster == Some(2),
     })
@@ -416,18 +444,33 @@ fn place(placed: bool, key: usize, later: Outcome) -> Outcome
     }
 }
 
-// Rules 16 to 19: one pass over the key entries, from the last to the first, so that the first entry of a key is the one that stays. Each byte order
-// has a loop of its own, so that it is not asked for at every number.
-fn judge_entries<const BIG: bool>(values: Values, head: Header) -> Result<KeysJudged, Verdict>
-    requires { (head.count ≤ 256) × (8 + 8 * head.count ≤ length values.directory.now) }
-    ensures { result ≡ entries_judged (lent_in BIG values.entry) head }
+// Rules 16 to 19: one pass over the key entries, from the last to the first, so that the first entry of a key is the one that stays; the directory is that of the
+// entries. Each byte order has a loop of its own, so that it is not asked for at every number.
+#[tactic(auto, using(crate::proofs::Turn::turns))]
+fn judge_entries<const BIG: bool>(
+    head: Header,
+    doubles: &[u8],
+    characters: &[u8],
+) -> Result<KeysJudged, Verdict>
+    ensures { result ≡ entries_judged (runs BIG head.entry.entries.directory.now doubles.now characters.now) (head_of head.entry.minor head.entry.entries.count) }
 {
     let mut sixteen = Outcome::Kept;
     let mut seventeen = Outcome::Kept;
     let mut next = None;
     let mut found = NOTHING;
-    for i in (0..head.count).rev() {
-        let e = entry_at(values.directory, BIG, i);
+    // Field by field: `..` is refused in a struct with ghost fields.
+    let entries = Entries {
+        directory: head.entries.directory,
+        big: BIG,
+        count: head.entries.count,
+    };
+    let values = Values {
+        directory: entries.directory,
+        doubles,
+        characters,
+    };
+    for i in (0..entries.count).rev() {
+        let e = entries.at(i);
         // Rule 16: a key is below the next one.
         sixteen = rise(e.key, next, sixteen);
         next = Some(e.key);
@@ -442,26 +485,18 @@ fn judge_entries<const BIG: bool>(values: Values, head: Header) -> Result<KeysJu
     finish(sixteen, seventeen, found, head)
 }
 
-// Rules 15 to 19 over the values of 34735, 34736 and 34737; an absent tag is an empty run.
-pub fn judge_keys(
-    big: bool,
-    directory: &[u8],
-    doubles: &[u8],
-    characters: &[u8],
-) -> Result<KeysJudged, Verdict>
-    ensures { result ≡ keys_judged (runs big directory.now doubles.now characters.now) }
+// Rules 15 to 19 over the three values.
+#[tactic(auto, unfolding(crate::specs::Pass::header_of, crate::specs::Pass::keys_judged, crate::specs::Pass::entries_judged, outcomes::specs::Ruled::ruled, paper::specs::Outcome::first, paper::specs::Keys::key_rules, paper::specs::Keys::keys, paper::specs::Keys::rule15, paper::specs::Keys::short, paper::specs::Keys::minor_revision, paper::specs::Keys::key_count))]
+pub fn judge_keys(big: bool, values: Values) -> Result<KeysJudged, Verdict>
+    ensures { result ≡ keys_judged (lent_in big values.entry) }
 {
     // Rule 15: the header.
-    let head = read_header(big, directory)?;
-    let values = Values {
-        directory,
-        doubles,
-        characters,
-    };
+    let head = read_header(big, values.directory)?;
+    // A const argument is no value: each byte order is named.
     if big {
-        judge_entries::<true>(values, head)
+        judge_entries::<true>(head, values.doubles, values.characters)
     } else {
-        judge_entries::<false>(values, head)
+        judge_entries::<false>(head, values.doubles, values.characters)
     }
 }
 

@@ -3,7 +3,6 @@ pub mod Sizes
 pub mod Opening
 pub mod Finding
 pub mod Columns
-pub mod Fronts
 pub mod Turns
 pub mod Values
 pub mod Stages

@@ -1,15 +1,16 @@
 -- Rule 6 where 50909 may stand more than once: the pass that counts these tags, and when it need not be made. Assumes nothing.
 use Prim.Native.Nat.{ℕ, ◌+◌, ◌-◌, ◌*◌, ◌≤◌, ◌<◌, zero-le}
 use mathlib.Core.Path.{◌≡◌, refl, sym, ap, ◌∙◌}
-use mathlib.Core.Bool.{Bool, true, false, cond, not}
+use mathlib.Core.Bool.{Bool, true, false}
 use mathlib.Core.List.{List, [], ◌∷◌, map}
 use native.Mathlib.Nat.{sub-zero, zero-add}
 use native.Mathlib.Omega.{arith}
 use lib.Dec.{ltb}
 use lib.ListN.{length, drop}
 use borrow.Author.Tests.{ne_eqb, eq-eqb, lt-ltb, le-ltb}
+use Rattle.std.specs.Prelude.{Option, Some, None, IfSome}
 use Rattle.paper.specs.Bytes.{num, build}
-use Rattle.paper.specs.Outcome.{ascending, ordered}
+use Rattle.paper.specs.Outcome.{ascending, ordered, ordered_from}
 use Rattle.paper.specs.declared.Outcome.{Outcome}
 use Rattle.paper.specs.declared.Outcome.TheVariants.{Kept as kept, Broken as broken}
 use Rattle.paper.specs.Tests.{keep}
@@ -18,18 +19,28 @@ use Rattle.paper.specs.declared.Entry.{Entry}
 use Rattle.paper.specs.Tag
 use Rattle.paper.proofs.Loops.{build-end}
 use Rattle.paper.proofs.Several.{rises-strict, no_other, rising}
-use Rattle.outcomes.proofs.Back.{step_back, front}
-use Rattle.layout.proofs.Fronts.{order-front}
+use Rattle.outcomes.proofs.Back.{step_back}
 use Rattle.layout.specs.declared.Ordered.{Ordered}
-use Rattle.layout.specs.Opening.{further_by, ordered_of}
+use Rattle.layout.specs.Opening.{further_by, follow_of, ordered_of}
 use Rattle.layout.specs.Repeats.{is_text, text_count, first_text, no_further, further_of}
 
 -- ---- the pass
 
+-- the first of the tags, if there is one
+abbrev pub front : List ℕ → Option ℕ
+front [] = None
+front (b ∷ bs) = Some b
+
+-- tags in order, with one more in front
+order-front : (a : ℕ) (next : Option ℕ) (six : Outcome) (bs : List ℕ) → six ≡ ordered behind bs → next ≡ front bs → follow_of a next six ≡ ordered behind (a ∷ bs)
+unfolding ordered ordered_from
+order-front a next six [] known after = rw after known
+order-front a next six (b ∷ bs) known after = rw (after, known) refl
+
 -- before entry i - 1 is looked at
-pub record Counting (big : Bool) (at c : ℕ) (dir : List ℕ) (i : ℕ) (six : Outcome) (next first many : ℕ) : Type 0 where
+pub record Counting (big : Bool) (at c : ℕ) (dir : List ℕ) (i : ℕ) (six : Outcome) (next : Option ℕ) (first many : ℕ) : Type 0 where
   pub few : i ≤ c
-  pub near : next ≤ 65536
+  pub near : IfSome next (λ n. n < 65536)
   pub rises : six ≡ rule6 (build (entry_at big at dir) i (c - i))
   pub after : next ≡ front (map (λ e. e.tag) (build (entry_at big at dir) i (c - i)))
   pub count : many ≡ text_count (build (entry_at big at dir) i (c - i))
@@ -37,13 +48,13 @@ pub record Counting (big : Bool) (at c : ℕ) (dir : List ℕ) (i : ℕ) (six : 
   pub place : 0 < many → first ≡ i + first_text (build (entry_at big at dir) i (c - i))
   pub low : first ≤ c
 
-pub count-start : (big : Bool) (at c : ℕ) (dir : List ℕ) → Counting big at c dir c kept 65536 0 0
-unfolding rule6 ordered front text_count keep
+pub count-start : (big : Bool) (at c : ℕ) (dir : List ℕ) → Counting big at c dir c kept None 0 0
+unfolding rule6 ordered text_count keep
 count-start big at c dir =
     let z : build (entry_at big at dir) c (c - c) ≡ [] = build-end (entry_at big at dir) c in
     record {
       few = omega arith;
-      near = omega arith;
+      near = tt;
       rises = rw z refl;
       after = rw z refl;
       count = rw z refl;
@@ -52,9 +63,8 @@ count-start big at c dir =
       low = omega arith;
     }
 
-module _ {big : Bool} {at c : ℕ} {dir : List ℕ} {h : ℕ} {six : Outcome} {next first many : ℕ} (pass : Counting big at c dir h six next first many) (some : 0 < h)
-    {tag : ℕ} (is-tag : (tag ≡ num big 2 dir (2 + 12 * (h - 1))) × (tag < 65536)) {bad : Bool} (is-bad : bad ≡ not (behind tag next))
-    {six' : Outcome} (is-six : six' ≡ cond bad (broken next) six) where
+module _ {big : Bool} {at c : ℕ} {dir : List ℕ} {h : ℕ} {six : Outcome} {next : Option ℕ} {first many : ℕ} (pass : Counting big at c dir h six next first many) (some : 0 < h)
+    {tag : ℕ} (is-tag : (tag ≡ num big 2 dir (2 + 12 * (h - 1))) × (tag < 65536)) {six' : Outcome} (is-six : six' ≡ follow_of tag next six) where
   abbrev Rest : List Entry
   Rest = build (entry_at big at dir) h (c - h)
 
@@ -68,38 +78,34 @@ module _ {big : Bool} {at c : ℕ} {dir : List ℕ} {h : ℕ} {six : Outcome} {n
   back : build (entry_at big at dir) (h - 1) (c - (h - 1)) ≡ Here ∷ Rest
   back = step_back (entry_at big at dir) c h some pass.few
 
-  top : behind tag 65536 ≡ true
-  unfolding behind
-  top = rw (lt-ltb tag 65536 is-tag.1)
-
   rises' : six' ≡ rule6 (Here ∷ Rest)
   unfolding rule6
-  rises' = rw (is-six, is-bad, here) (order-front behind tag top next six (map (λ e. e.tag) Rest) pass.rises pass.after)
+  rises' = rw (is-six, here) (order-front tag next six (map (λ e. e.tag) Rest) pass.rises pass.after)
 
-  pub count-text : tag ≡ Tag.metadata → Counting big at c dir (h - 1) six' tag (h - 1) (many + 1)
-  unfolding front text_count keep first_text
+  pub count-text : tag ≡ Tag.metadata → Counting big at c dir (h - 1) six' (Some tag) (h - 1) (many + 1)
+  unfolding text_count keep first_text
   count-text e =
       let t : is_text Here ≡ true = eq-eqb Here.tag Tag.metadata (here ∙ e) in
       record {
         few = omega (arith, pass.few);
-        near = omega arith;
+        near = is-tag.1;
         rises = rw back rises';
-        after = rw back (sym here);
+        after = rw back (ap Some (sym here));
         count = rw (back, t) (ap (λ (n : ℕ). n + 1) pass.count ∙ (omega arith));
         less = let l = pass.less in let w = pass.few in omega arith;
         place = λ l. rw (back, t) (omega arith);
         low = omega (arith, pass.few);
       }
 
-  pub count-other : (tag ≡ Tag.metadata → ⊥) → Counting big at c dir (h - 1) six' tag first many
-  unfolding front text_count keep first_text
+  pub count-other : (tag ≡ Tag.metadata → ⊥) → Counting big at c dir (h - 1) six' (Some tag) first many
+  unfolding text_count keep first_text
   count-other e =
       let t : is_text Here ≡ false = ne_eqb Here.tag Tag.metadata (λ z. e (sym here ∙ z)) in
       record {
         few = omega (arith, pass.few);
-        near = omega arith;
+        near = is-tag.1;
         rises = rw back rises';
-        after = rw back (sym here);
+        after = rw back (ap Some (sym here));
         count = rw (back, t) pass.count;
         less = let l = pass.less in let w = pass.few in omega arith;
         place = λ l. rw (back, t) (let p = pass.place l in omega arith);
@@ -116,7 +122,7 @@ few-further : (at : ℕ) (es : List Entry) → text_count es ≤ 1 → further_o
 unfolding further_of
 few-further at es l = rw (le-ltb 1 (text_count es) l)
 
-module _ {big : Bool} {at c : ℕ} {dir : List ℕ} {i : ℕ} {six : Outcome} {next first many : ℕ} (pass : Counting big at c dir i six next first many) (done : i ≤ 0) where
+module _ {big : Bool} {at c : ℕ} {dir : List ℕ} {i : ℕ} {six : Outcome} {next : Option ℕ} {first many : ℕ} (pass : Counting big at c dir i six next first many) (done : i ≤ 0) where
   abbrev Es : List Entry
   Es = entries big at c dir
 

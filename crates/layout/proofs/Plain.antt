@@ -1,12 +1,14 @@
 -- A pass over a directory from the first entry to the last, which stops at the one that it looks for; and what rules 6 and 7 say together. Assumes nothing.
-use Prim.Native.Nat.{ℕ, ◌+◌, ◌-◌, ◌*◌, ◌≤◌, ◌<◌}
-use mathlib.Core.Path.{◌≡◌, sym, ap, ◌∙◌}
+use Prim.Native.Nat.{ℕ, zero, suc, ◌+◌, ◌-◌, ◌*◌, ◌≤◌, ◌<◌}
+use mathlib.Core.Path.{◌≡◌, refl, sym, ap, ◌∙◌}
 use mathlib.Core.Bool.{Bool, true, false}
 use mathlib.Core.List.{List, []}
 use native.Mathlib.Nat.{sub-zero}
+use native.Mathlib.Numerals.{add-one}
 use native.Mathlib.Omega.{arith}
+use lib.Dec.{eqb}
 use borrow.Author.Tests.{eq-eqb, ne_eqb}
-use Rattle.std.specs.Prelude.{Some, None}
+use Rattle.std.specs.Prelude.{Option, Some, None, option_map}
 use Rattle.paper.specs.Bytes.{build, num}
 use Rattle.paper.specs.Outcome.{first_bad, first}
 use Rattle.paper.specs.Layout.{entry_of, entry_at, entries, bad_value, rule7}
@@ -17,7 +19,7 @@ use Rattle.paper.specs.declared.Entry.{Entry}
 use Rattle.paper.proofs.Laws.{build-step}
 use Rattle.paper.proofs.Loops.{build-end}
 use Rattle.layout.specs.Opening.{scanned_of, ordered_of, concluded_of}
-use Rattle.layout.specs.Finding.{found_in}
+use Rattle.layout.specs.Finding.{place_from, place_in, found_in}
 use Rattle.layout.specs.declared.Ordered.{Ordered}
 use Rattle.layout.specs.declared.Scanned.{Scanned}
 
@@ -34,32 +36,51 @@ none_rest big at c dir i l h = let e : i ≡ c = omega arith in rw e (build-end 
 
 -- ---- the first entry of a tag
 
--- no entry before entry i has tag t
-pub record Sought (t : ℕ) (big : Bool) (at c : ℕ) (dir : List ℕ) (i : ℕ) : Type 0 where
+-- no entry before entry i has tag t, wherever the directory stands
+pub record Sought (t : ℕ) (big : Bool) (c : ℕ) (dir : List ℕ) (i : ℕ) : Type 0 where
   pub few : i ≤ c
-  pub so_far : found_in t (entries big at c dir) ≡ found_in t (build (entry_at big at dir) i (c - i))
+  pub so_far : (at : ℕ) → place_in t (entries big at c dir) ≡ place_from t i (build (entry_at big at dir) i (c - i))
 
-pub seek-start : {t : ℕ} {big : Bool} {at c : ℕ} {dir : List ℕ} → Sought t big at c dir 0
-seek-start {t} {big} {at} {c} {dir} = record { few = omega arith; so_far = ap (found_in t) (all_rest big at c dir) }
+pub seek-start : {t : ℕ} {big : Bool} {c : ℕ} {dir : List ℕ} → Sought t big c dir 0
+seek-start {t} {big} {c} {dir} = record { few = omega arith; so_far = λ at. ap (place_from t 0) (all_rest big at c dir) }
 
-module _ {t : ℕ} {big : Bool} {at c : ℕ} {dir : List ℕ} {i : ℕ} (sought : Sought t big at c dir i) where
+module _ {t : ℕ} {big : Bool} {c : ℕ} {dir : List ℕ} {i : ℕ} (sought : Sought t big c dir i) where
   module _ (more : i < c) {v : ℕ} (is-v : v ≡ num big 2 dir (2 + 12 * i)) where
-    tag-is : (entry_at big at dir i).tag ≡ v
+    tag-is : (at : ℕ) → (entry_at big at dir i).tag ≡ v
     unfolding entry_of
-    tag-is = sym is-v
+    tag-is at = sym is-v
 
-    pub seek_found : v ≡ t → {e : Entry} → e ≡ entry_at big at dir i → Some e ≡ found_in t (entries big at c dir)
-    unfolding found_in
-    seek_found q is-e = rw is-e (sym (sought.so_far ∙ rw (build-step (entry_at big at dir) i c more, eq-eqb (entry_at big at dir i).tag t (tag-is ∙ q))))
+    pub seek_found : v ≡ t → (at : ℕ) → Some i ≡ place_in t (entries big at c dir)
+    unfolding place_from
+    seek_found q at = sym (sought.so_far at ∙ rw (build-step (entry_at big at dir) i c more, eq-eqb (entry_at big at dir i).tag t (tag-is at ∙ q)))
 
-    pub seek-more : (v ≡ t → ⊥) → Sought t big at c dir (i + 1)
-    unfolding found_in
+    pub seek-more : (v ≡ t → ⊥) → Sought t big c dir (i + 1)
+    unfolding place_from
     seek-more n =
-        record { few = omega arith; so_far = sought.so_far ∙ rw (build-step (entry_at big at dir) i c more, ne_eqb (entry_at big at dir i).tag t (λ z. n (sym tag-is ∙ z))) }
+        record {
+          few = omega arith;
+          so_far = λ at. sought.so_far at ∙ rw (build-step (entry_at big at dir) i c more, ne_eqb (entry_at big at dir i).tag t (λ z. n (sym (tag-is at) ∙ z)), add-one);
+        }
 
-  pub seek-none : c ≤ i → None ≡ found_in t (entries big at c dir)
-  unfolding found_in
-  seek-none h = sym (sought.so_far ∙ rw (none_rest big at c dir i sought.few h))
+  pub seek-none : c ≤ i → (at : ℕ) → None ≡ place_in t (entries big at c dir)
+  unfolding place_from
+  seek-none h at = sym (sought.so_far at ∙ rw (none_rest big at c dir i sought.few h))
+
+-- the entry itself
+found-from : (t : ℕ) (g : ℕ → Entry) (i k : ℕ) → found_in t (build g i k) ≡ option_map g (place_from t i (build g i k))
+unfolding found_in place_from build
+found-from t g i zero = refl
+found-from t g i (suc k) = go (eqb (g i).tag t) refl (found-from t g (suc i) k)
+  where
+    go : (b : Bool) → eqb (g i).tag t ≡ b → found_in t (build g (suc i) k) ≡ option_map g (place_from t (suc i) (build g (suc i) k))
+        → found_in t (build g i (suc k)) ≡ option_map g (place_from t i (build g i (suc k)))
+    go true p h = rw p
+    go false p h = rw p h
+
+pub found-placed : (t : ℕ) (big : Bool) (at c : ℕ) (dir : List ℕ) {o : Option ℕ} → o ≡ place_in t (entries big at c dir)
+    → option_map (entry_at big at dir) o ≡ found_in t (entries big at c dir)
+unfolding entries
+found-placed t big at c dir is = rw is (sym (found-from t (entry_at big at dir) 0 c))
 
 -- ---- rule 7
 

@@ -1,5 +1,5 @@
--- A file stage by stage up to rule 7, with any verdict behind: where a stage refuses, its verdict is the whole one; where none does, it is that of what the
--- pass over the directory answered, and then the one behind. Assumes nothing.
+-- A file stage by stage up to rule 7, with any verdict behind: where a stage refuses, its verdict is the whole one; where none does, it is the one behind.
+-- Assumes nothing.
 use Prim.Native.Nat.{ℕ, ◌+◌, ◌≤◌, ◌<◌}
 use mathlib.Core.Path.{◌≡◌, refl, sym, ap, ◌∙◌}
 use mathlib.Core.Bool.{Bool}
@@ -13,12 +13,12 @@ use Rattle.paper.specs.Layout.{dir_len, entries}
 use Rattle.paper.specs.Judge.{Head as Place, head_in, dir_run, entries_in, entry_rules, head_stage, offset_stage, count_stage, entry_stage, directory_stage}
 use Rattle.paper.specs.declared.Verdict.{Verdict}
 use Rattle.paper.proofs.First.{chain-zero, chain-stop, chain-turn}
-use Rattle.paper.proofs.Laws.{run-length-in}
+use Rattle.outcomes.specs.Ruled.{ruled}
+use Rattle.outcomes.proofs.Ruled.{found-ruled, broken-ruled}
 use Rattle.layout.specs.Opening.{headed_of, opened_of, scanned_of, LaidAt}
 use Rattle.layout.specs.declared.Head.{Head}
 use Rattle.layout.specs.declared.Directory.{Directory}
 use Rattle.layout.specs.declared.Scanned.{Scanned}
-use Rattle.outcomes.proofs.Ruled.{broken-ruled}
 use Rattle.layout.proofs.Opening.{Heading, head-good, Laying, laid, laid-place}
 
 -- the verdict of rules 1 to 7, and then v
@@ -87,12 +87,9 @@ module _ {f : List ℕ} {big : Bool} {at c : ℕ} (o : LaidAt f big at c) where
   pub file-size : length f ≤ 4294967295
   file-size = (head-good f _ (sym o.head)).size
 
-  -- what the pass over the directory asks, where its bytes are s
-  pub scan-asked : {s : List ℕ} → s ≡ run f at (dir_len c)
-      → (dir_len c ≤ length s) × (0 < c) × (c ≤ 1024) × (at + dir_len c ≤ length f) × (length f ≤ 4294967295)
-  scan-asked {s} cut =
-      let e : length s ≡ dir_len c = ap length cut ∙ run-length-in f at (dir_len c) lay.whole in
-      (omega arith, lay.some, lay.few, lay.whole, file-size)
+  -- what is asked of its entries
+  pub entries-asked : (at + dir_len c ≤ length f) × (c ≤ 1024) × (at < 4294967296)
+  entries-asked = (lay.whole, lay.few, omega (arith, lay.whole, file-size))
 
   entries-are : entry_stage f Here ≡ first (entry_rules Here (entries big at c Bytes))
   unfolding entry_stage entries_in dir_run
@@ -100,13 +97,26 @@ module _ {f : List ℕ} {big : Bool} {at c : ℕ} (o : LaidAt f big at c) where
 
   -- and what it answered
   module _ {s : Scanned} (so : s ≡ scanned_of (record { size = length f; big = big; at = at }) c (run f at (dir_len c))) where
-    pub verdict-is : s.verdict ≡ first (entry_rules (record { size = length f; big = big; at = at }) (entries big at c (run f at (dir_len c))))
-    unfolding scanned_of
-    verdict-is = ap (λ (x : Scanned). x.verdict) so
+    abbrev Six_seven : Verdict
+    Six_seven = first (entry_rules (record { size = length f; big = big; at = at }) (entries big at c (run f at (dir_len c))))
 
-    pub after-scan : (v : Verdict) → head_stage f ▷ (directory_stage f (head_in f) ▷ v) ≡ s.verdict ▷ v
+    pub judged-is : s.judged ≡ ruled (first (entry_rules (record { size = length f; big = big; at = at }) (entries big at c (run f at (dir_len c))))) (tt {0})
+    unfolding scanned_of
+    judged-is = ap (λ (x : Scanned). x.judged) so
+
+    after-scan : (v : Verdict) → up_to7 f v ≡ Six_seven ▷ v
     unfolding directory_stage
     after-scan v =
         after-head f v (sym o.head)
         ∙ ap (λ (x : Verdict). x ▷ v)
-        (chain-zero (offset_stage Here) _ lay.offset_zero ∙ chain-zero (count_stage f Here) _ lay.count_zero ∙ entries-are ∙ sym verdict-is)
+        (chain-zero (offset_stage Here) _ lay.offset_zero ∙ chain-zero (count_stage f Here) _ lay.count_zero ∙ entries-are)
+
+    -- rules 6 and 7 refuse
+    pub scan-refuses : (v : Verdict) {e : Verdict} → s.judged ≡ Err e → Refuses (head_stage f ▷ (directory_stage f (head_in f) ▷ v)) e
+    scan-refuses v {e} bad =
+        let b = broken-ruled Six_seven (tt {0}) e (sym bad ∙ judged-is) in
+        rw b.1 record { is = after-scan v ∙ chain-stop Six_seven v b.0; some = b.0 }
+
+    -- they do not, and so the verdict behind them is the whole one
+    pub scan-keeps : (v : Verdict) {x : Unit {0}} → s.judged ≡ Ok x → head_stage f ▷ (directory_stage f (head_in f) ▷ v) ≡ v
+    scan-keeps v {x} good = after-scan v ∙ chain-zero Six_seven v (found-ruled Six_seven (tt {0}) x (sym good ∙ judged-is)).0

@@ -1,30 +1,32 @@
--- What a pass with verdict 0 says of values: each entry's value lies in the file, and what `value` hands back is what the rules after 8
+-- What a pass that refuses nothing says of values: each entry's value lies in the file, and what `value` hands back is what the rules after 8
 -- call the tag's bytes. Assumes nothing.
 use Prim.Native.Nat.{ℕ, zero, suc, ◌+◌, ◌*◌, ◌≤◌, ◌<◌}
-use mathlib.Core.Path.{◌≡◌, refl, sym, ap, ◌∙◌}
+use mathlib.Core.Path.{◌≡◌, refl}
 use mathlib.Core.Bool.{Bool, true, false}
 use mathlib.Core.List.{List, map}
 use native.Mathlib.Nat.{zero-mul}
 use native.Mathlib.Omega.{arith}
 use lib.Dec.{eqb}
 use borrow.Author.Tests.{eqb-true, ltb-false}
+use Rattle.std.specs.Prelude.{Ok}
 use Rattle.paper.specs.Bytes.{run, num, build}
 use Rattle.paper.specs.Outcome.{first}
 use Rattle.paper.specs.declared.Outcome.TheVariants.{Kept as kept}
 use Rattle.paper.specs.declared.Entry.{Entry}
-use Rattle.paper.specs.declared.Verdict.{Verdict}
 use Rattle.paper.specs.Layout.{dir_len, size_of, start_of, entry_of, entry_at, entries, typed, rule6, rule7}
 use Rattle.paper.specs.Tests.{all}
 use Rattle.paper.specs.Tags.{Line, in_table, listed, hold, find, bytes_of}
 use Rattle.paper.specs.Judge.{Head, entry_rules}
 use Rattle.paper.proofs.Bounds.{entry-inside}
 use Rattle.paper.proofs.First.{kept-first}
+use Rattle.outcomes.specs.Ruled.{ruled}
+use Rattle.outcomes.proofs.Ruled.{found-ruled}
 use Rattle.layout.specs.Columns.{first_with}
 
--- where the verdict v of rules 6 and 7 is 0, both are kept
-module _ (h : Head) (es : List Entry) {v : Verdict} (is-v : v ≡ first (entry_rules h es)) (zero : v.number ≡ 0) where
+-- where rules 6 and 7 answer no verdict, both are kept
+module _ (h : Head) (es : List Entry) {x : Unit {0}} (good : Ok x ≡ ruled (first (entry_rules h es)) (tt {0})) where
   none-broken : (first (entry_rules h es)).number ≡ 0
-  none-broken = ap (λ (x : Verdict). x.number) (sym is-v) ∙ zero
+  none-broken = (found-ruled (first (entry_rules h es)) (tt {0}) x good).0
 
   pub six-kept : rule6 es ≡ kept
   unfolding entry_rules all

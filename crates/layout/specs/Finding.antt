@@ -1,5 +1,5 @@
 -- Where the tags of a table stand: each in its cell, and in the entries of a directory. Assumes nothing.
-use Rattle.std.specs.Prelude.{ℕ, ◌*◌, ◌/◌, ◌%◌, ◌≡◌, Bool, true, cond, not, ◌&&◌, ◌||◌, List, [], ◌∷◌, map, eqb, ltb, length, get_or, Option, Some, None}
+use Rattle.std.specs.Prelude.{ℕ, suc, ◌*◌, ◌/◌, ◌%◌, ◌≡◌, Bool, true, cond, not, ◌&&◌, ◌||◌, List, [], ◌∷◌, map, eqb, ltb, length, get_or, Option, Some, None}
 use Rattle.paper.specs.Bytes.{build}
 use Rattle.paper.specs.Tests.{all, index_of, distinct}
 use Rattle.paper.specs.declared.Entry.{Entry}
@@ -44,6 +44,15 @@ pub record Celled (factor : ℕ) (cells : List Cell) (ts : List ℕ) : Type 0 wh
   pub rights : all (right factor cells ts) (build (λ c. c) 0 32) ≡ true
 
 -- ---- an entry
+
+-- the index of the first entry with tag t, where the first of the list has index i
+unfoldable pub place_from : ℕ → ℕ → List Entry → Option ℕ
+place_from t i [] = None
+place_from t i (e ∷ es) = cond (eqb e.tag t) (Some i) (place_from t (suc i) es)
+
+-- where it stands among the entries of a directory
+abbrev pub place_in : ℕ → List Entry → Option ℕ
+place_in t es = place_from t 0 es
 
 -- the first entry with tag t
 unfoldable pub found_in : ℕ → List Entry → Option Entry

@@ -3,3 +3,4 @@ pub mod Opening
 pub mod Finding
 pub mod Columns
 pub mod Repeats
+pub mod Parts

@@ -1,8 +1,8 @@
 -- What rules 1 to 3 answer for a file, rules 4 and 5 for a directory at an offset, and rules 6 and 7 for a directory: the first broken rule
 -- with its place, or what is then known. Assumes nothing.
-use Rattle.std.specs.Prelude.{ℕ, ◌≤◌, ◌<◌, ◌≡◌, Bool, List, length, Result, Ok}
+use Rattle.std.specs.Prelude.{ℕ, ◌≡◌, Bool, cond, List, length, Option, Some, None, Result, Ok}
 use Rattle.paper.specs.Outcome.{first, verdict, or_else, ◌▷◌}
-use Rattle.paper.specs.Layout.{dir_len, entries, next_offset, rule6}
+use Rattle.paper.specs.Layout.{entries, next_offset, behind, rule6}
 use Rattle.paper.specs.Judge.{Head as Place, head_in, count_in, entry_rules, head_stage, offset_stage, count_stage}
 use Rattle.paper.specs.declared.Outcome.{Outcome}
 use Rattle.paper.specs.declared.Outcome.TheVariants.{Kept as kept, Broken as broken}
@@ -33,11 +33,9 @@ pub record LaidAt (f : List ℕ) (big : Bool) (at c : ℕ) : Type 0 where
   pub head : headed_of f ≡ Ok (record { big = big; at = at })
   pub count : opened_of f (record { size = length f; big = big; at = at }) ≡ Ok (record { big = big; at = at; count = c })
 
--- the bytes of a directory are lent
-pub record Lent (d : Directory) (dir : List ℕ) : Type 0 where
-  pub room : dir_len d.count ≤ length dir
-  pub few : d.count ≤ 1024
-  pub low : d.at < 4294967296
+-- the entries of a directory whose bytes are dir
+abbrev pub entries_of : Directory → List ℕ → List Entry
+entries_of d dir = entries d.big d.at d.count dir
 
 -- where the further entries of 50909 stand, told where rule 6 is kept
 abbrev pub further_by : Outcome → ℕ → List Entry → Further
@@ -48,7 +46,16 @@ further_by (broken p) at es = no_further
 unfoldable pub scanned_of : Place → ℕ → List ℕ → Scanned
 scanned_of h c dir =
     let es : List Entry = entries h.big h.at c dir in
-    record { verdict = first (entry_rules h es); next = next_offset h.big c dir; further = further_by (rule6 es) h.at es }
+    record { judged = ruled (first (entry_rules h es)) tt; next = next_offset h.big c dir; further = further_by (rule6 es) h.at es }
+
+-- those of directory d, in a file of n bytes
+abbrev pub scanned_at : ℕ → Directory → List ℕ → Scanned
+scanned_at n d dir = scanned_of (record { size = n; big = d.big; at = d.at }) d.count dir
+
+-- rule 6, with a tag in front of the next one, if there is one
+abbrev pub follow_of : ℕ → Option ℕ → Outcome → Outcome
+follow_of t None later = later
+follow_of t (Some n) later = cond (behind t n) later (broken n)
 
 -- rule 6 and the further entries of 50909
 unfoldable pub ordered_of : List Entry → ℕ → Ordered
@@ -57,4 +64,4 @@ ordered_of es at = record { six = rule6 es; further = further_by (rule6 es) at e
 -- what follows from them and from rule 7, in a directory of c entries
 unfoldable pub concluded_of : Bool → ℕ → List ℕ → Ordered → Outcome → Scanned
 concluded_of big c dir o seven =
-    record { verdict = or_else 6 o.six (or_else 7 seven (verdict 0 0)); next = next_offset big c dir; further = o.further }
+    record { judged = ruled (or_else 6 o.six (or_else 7 seven (verdict 0 0))) tt; next = next_offset big c dir; further = o.further }

@@ -5,6 +5,7 @@ use mathlib.Core.Path.{◌≡◌, sym, ap, ◌∙◌}
 use mathlib.Core.Bool.{Bool}
 use mathlib.Core.List.{List, map}
 use lib.ListN.{length}
+use Rattle.std.specs.Prelude.{Ok}
 use Rattle.paper.specs.Bytes.{run}
 use Rattle.paper.specs.Layout.{dir_len, entries, rule6}
 use Rattle.paper.specs.Tags.{Line, hold}
@@ -15,7 +16,7 @@ use Rattle.paper.specs.declared.Entry.{Entry}
 use Rattle.layout.specs.Columns.{firsts}
 use Rattle.layout.specs.Opening.{scanned_of, further_by, LaidAt}
 use Rattle.layout.specs.declared.Scanned.{Scanned}
-use Rattle.layout.proofs.Stages.{lay, head-is, file-size, verdict-is}
+use Rattle.layout.proofs.Stages.{lay, head-is, file-size, judged-is}
 use Rattle.layout.proofs.Values.{six-kept, seven-kept}
 use Rattle.lines.specs.Lined.{line_tags}
 use Rattle.lines.specs.Ready.{entries_at, held_at, Ready, Behind}
@@ -31,10 +32,10 @@ module _ {f : List ℕ} {big : Bool} {at c : ℕ} (o : LaidAt f big at c) where
       ap (λ (h : Head). (view_at tb f h).held) (head-is o)
       ∙ ap (λ (k : ℕ). map (hold tb f) (entries big at k (run f at (dir_len k)))) (sym (lay o).count)
 
-  module _ {s : Scanned} (so : s ≡ scanned_of (record { size = length f; big = big; at = at }) c (run f at (dir_len c))) (zero : s.verdict.number ≡ 0) where
+  module _ {s : Scanned} (so : s ≡ scanned_of (record { size = length f; big = big; at = at }) c (run f at (dir_len c))) {x : Unit {0}} (good : s.judged ≡ Ok x) where
     pub six-is : rule6 (entries_at f big at c) ≡ kept
     unfolding entries_at
-    six-is = six-kept Place (entries big at c (run f at (dir_len c))) (verdict-is o so) zero
+    six-is = six-kept Place (entries big at c (run f at (dir_len c))) (sym good ∙ judged-is o so)
 
     pub behind : Behind f big at c s.further
     unfolding scanned_of entries_at
@@ -56,5 +57,5 @@ module _ {f : List ℕ} {big : Bool} {at c : ℕ} (o : LaidAt f big at c) where
           few = (lay o).few;
           whole = (lay o).whole;
           found_are = k ∙ ap (λ (us : List ℕ). firsts us (entries big at c (run f at (dir_len c)))) is;
-          seven = seven-kept Place (entries big at c (run f at (dir_len c))) (verdict-is o so) zero;
+          seven = seven-kept Place (entries big at c (run f at (dir_len c))) (sym good ∙ judged-is o so);
         }

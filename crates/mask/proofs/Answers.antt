@@ -1,16 +1,16 @@
 -- One law for each answer of rules 27 and 9 to 12 of a mask. Assumes nothing.
-use Prim.Native.Nat.{ℕ, ◌≤◌, ◌<◌}
+use Prim.Native.Nat.{ℕ, ◌<◌}
 use mathlib.Core.Path.{◌≡◌, refl, sym, ap, ◌∙◌, subst}
-use mathlib.Core.Bool.{Bool, true, false, cond, not, ◌&&◌, ◌||◌, or-true}
+use mathlib.Core.Bool.{Bool, true, false, cond, not, ◌&&◌, or-true}
 use mathlib.Core.List.{List, [], ◌∷◌}
 use lib.Dec.{eqb, lit<}
-use lib.ListN.{get_or}
+use lib.ListN.{length, get_or}
 use borrow.Author.Tests.{eqb-true}
-use Rattle.paper.specs.Outcome.{breaks, first_bad, verdict, or_else, first}
-use Rattle.paper.specs.Tests.{all, between, just, allows}
+use Rattle.paper.specs.Outcome.{first_bad, verdict, or_else, first}
+use Rattle.paper.specs.Tests.{all, just, allows}
 use Rattle.paper.specs.Layout.{rule6}
 use Rattle.paper.specs.Tag
-use Rattle.paper.specs.Tags.{Line, line, yes, LONG, more, sixteens, mask_values, mask_table, named, Held, find, value_of, values_of, tiled, disallowed, rule27, rule9, rule10, rule11, rule12}
+use Rattle.paper.specs.Tags.{Line, line, yes, LONG, mask_values, mask_table, named, Held, find, value_of, values_of, tiled, disallowed, rule11, rule12}
 use Rattle.paper.specs.Judge.{table_rules}
 use Rattle.paper.specs.declared.Entry.{Entry}
 use Rattle.paper.specs.declared.Outcome.{Outcome}
@@ -18,27 +18,29 @@ use Rattle.paper.specs.declared.Outcome.TheVariants.{Kept as kept, Broken as bro
 use Rattle.paper.specs.declared.Verdict.{Verdict}
 use Rattle.paper.proofs.Laws.{and-eq, or_same}
 use Rattle.paper.proofs.Bounds.{no_line}
-use Rattle.lines.specs.Rows.{needed_by, nine_of, ten_of}
+use Rattle.lines.specs.Rows.{needed_by}
 use Rattle.lines.specs.Lined.{says, all_say, text_last, Lined as LinedTable}
 use Rattle.mask.specs.declared.table.TheConstants.{LINES}
 use Rattle.lines.specs.Ready.{entries_at, held_at, at_slot, Ready}
 use Rattle.lines.specs.declared.Line.{Line as Row}
 use Rattle.lines.proofs.Slots.{Slot, slot}
-use Rattle.lines.proofs.Ruled.{nine-is, ten-once}
+use Rattle.lines.proofs.Ruled.{ten-once}
 use Rattle.tags.specs.Index
-use Rattle.tags.specs.Slots.{strip_slots, tile_slots, some_at, slot_of_offsets, slot_of_byte_counts}
-use Rattle.tags.specs.Numbers.{codings, numbers_of, bits_of, numbers_in, count_of_pieces, eleven_by}
-use Rattle.tags.specs.Tagging.{view_of, Fitting}
+use Rattle.tags.specs.Slots.{slot_of_offsets, slot_of_byte_counts}
+use Rattle.tags.specs.Numbers.{CutReadable, cut_in, numbers_of, bits_of, numbers_in}
+use Rattle.tags.specs.Numbers.{codings, rows_allowed, planar_allowed, tile_width_allowed, tile_length_allowed, Positive, pieces_by, count_of_pieces, eleven_by}
+use Rattle.tags.specs.Tagging.{families_of, view_of, Fitting}
 use Rattle.tags.specs.declared.Numbers.{Numbers}
-use Rattle.tags.proofs.Slots.{tiles-are, mixed-is}
+use Rattle.tags.proofs.Families.{families-refuse, ten-kept, families-fit}
 use Rattle.tags.proofs.Rules.{Lined, needed-lined, one-bad, eleven-by, twelve-is}
 use Rattle.tags.proofs.Fetched.{single-is, number_is, readable, numbers-are, bits-same, bits-some, bits-end, bits-room, count_at, offsets-same, byte-counts-same}
 use Rattle.tags.proofs.Kept.{Allowed, eleven-gives}
-use Rattle.mask.specs.Values.{subfile, number_at, Sized, sized_in, Single258, all_one, single_in, Plain, plain_in, CutReadable, cut_in, CutBytes, cut_allowed, Countable, pieces_by, agrees}
+use Rattle.mask.specs.Values.{subfile, number_at, Sized, sized_in, Single258, all_one, single_in, Plain, plain_in, cut_allowed, agrees}
 use Rattle.std.specs.Prelude.{Ok, Err}
 use Rattle.mask.specs.Masking.{numbered, tagged_of}
-use Rattle.mask.specs.declared.Cut.{Cut}
-use Rattle.mask.proofs.Tested.{is_kept, kept-is, just-one, Tests, kept-eleven, in_order, one_bit, kept-twelve}
+use Rattle.tags.specs.declared.Cut.{Cut}
+use Rattle.mask.proofs.Numbered.{number-told}
+use Rattle.mask.proofs.Tested.{is_kept, kept-is, just-one, Tests, kept-eleven, cut-tests, in_order, one_bit, kept-twelve}
 
 -- ---- the table
 
@@ -66,48 +68,21 @@ unfolding numbered
 told k z kept w t h = cc
 told k z (broken p) w t h = rw z
 
+-- rules 27, 9 and 10 refuse, or are kept
 module _ (wide long : ℕ) {f : List ℕ} {big : Bool} {at c : ℕ} {found : List Entry} (r : Ready (mask_table wide long) f big at c found)
-    {s t m : Bool} (is-s : s ≡ some_at strip_slots found) (is-t : t ≡ some_at tile_slots found) (is_m : m ≡ (s && t) || (not s && not t)) where
-  t_same : t ≡ tiled (held_at (mask_table wide long) f big at c)
+    (six : rule6 (entries_at f big at c) ≡ kept) {rows : List Row} (l : LinedTable rows (mask_table wide long)) where
+  pub refused-families : {e : Verdict} → Err e ≡ families_of rows found → Err e.number ≡ tagged_of (view_of (mask_table wide long) f big at c)
+  unfolding tagged_of mask_table
+  refused-families {e} h = number-told _ _ e (families-refuse (mask_values wide long) (mask-named wide long) r l six _ h)
+
+  pub fitting : {t : Bool} → Ok t ≡ families_of rows found → Fitting (mask_table wide long) f big at c t found
   unfolding mask_table
-  t_same = is-t ∙ tiles-are (mask_values wide long) (mask-named wide long) r
-
-  mixed-same : rule27 (held_at (mask_table wide long) f big at c) ≡ breaks m 0
-  unfolding mask_table
-  mixed-same = mixed-is (mask_values wide long) (mask-named wide long) r is-s is-t is_m
-
-  pub refused-mixed : m ≡ true → Err 27 ≡ tagged_of (view_of (mask_table wide long) f big at c)
-  unfolding tagged_of numbered view_of table_rules first
-  refused-mixed h = rw (mixed-same, h)
-
-  module _ (alike : m ≡ false) {rows : List Row} (l : LinedTable rows (mask_table wide long)) {o : Outcome} (is-o : o ≡ nine_of rows t found) where
-    mixed-kept : rule27 (held_at (mask_table wide long) f big at c) ≡ kept
-    mixed-kept = mixed-same ∙ ap (λ (b : Bool). breaks b 0) alike
-
-    nine-same : o ≡ rule9 (mask_table wide long) (held_at (mask_table wide long) f big at c)
-    nine-same = is-o ∙ ap (λ (b : Bool). nine_of rows b found) t_same ∙ nine-is r l
-
-    pub refused-nine : {p : ℕ} → o ≡ broken p → Err 9 ≡ tagged_of (view_of (mask_table wide long) f big at c)
-    unfolding tagged_of numbered view_of table_rules first
-    refused-nine h = rw (mixed-kept, ← nine-same, h)
-
-    module _ (h : o ≡ kept) {u : Outcome} (is-u : u ≡ ten_of rows found) (six : rule6 (entries_at f big at c) ≡ kept) where
-      ten-same : u ≡ rule10 (mask_table wide long) (held_at (mask_table wide long) f big at c)
-      unfolding mask_table
-      ten-same = is-u ∙ ten-once r six l refl
-
-      pub refused-ten : {p : ℕ} → u ≡ broken p → Err 10 ≡ tagged_of (view_of (mask_table wide long) f big at c)
-      unfolding tagged_of numbered view_of table_rules first
-      refused-ten k = rw (mixed-kept, ← nine-same, h, ← ten-same, k)
-
-      pub fitting : u ≡ kept → Fitting (mask_table wide long) f big at c t found
-      fitting k = record { ready = r; tiled_is = t_same; twenty_seven = mixed-kept; nine = sym nine-same ∙ h; ten = sym ten-same ∙ k }
+  fitting is =
+      let v = mask_values wide long in
+      let n = mask-named wide long in
+      families-fit v n r l is (sym (ten-once r six l refl) ∙ ten-kept v n r l is)
 
 -- ---- the values
-
--- the numbers by which the picture is cut
-abbrev cut_from : Numbers → Cut
-cut_from n = record { rows = n.rows; tilewidth = n.tilewidth; tilelength = n.tilelength }
 
 pub exactly : (x y : ℕ) → allows (just y ∷ []) x ≡ true → x ≡ y
 exactly x y i = eqb-true x y (sym (just-one x y) ∙ i)
@@ -150,11 +125,9 @@ module _ (wide long : ℕ) {f : List ℕ} {big : Bool} {at c : ℕ} {t : Bool} {
       let r = readable (mask_values wide long) (mask-named wide long) w in
       record { compression = r.compression; photometric = r.photometric; samples = r.samples; planar = r.planar; kind = single-is kind-slot either-lined }
 
-  pub cut-readable : CutReadable f t found
+  pub cut-readable : CutReadable (length f) t found
   unfolding mask_table
-  cut-readable =
-      let r = readable (mask_values wide long) (mask-named wide long) w in
-      record { rows = r.rows; tilewidth = r.tilewidth; tilelength = r.tilelength }
+  cut-readable = (readable (mask_values wide long) (mask-named wide long) w).cut
 
   numbers-same : numbers_in big f t found ≡ numbers_of big Hs
   unfolding mask_table
@@ -194,12 +167,12 @@ module _ (wide long : ℕ) {f : List ℕ} {big : Bool} {at c : ℕ} {t : Bool} {
   module _ {a b d e : Bool} (is-a : a ≡ sized_in big f wide long found) (is_b : b ≡ single_in big f found) (is-d : d ≡ plain_in big f found)
       {k : Cut} (is-k : k ≡ cut_in big f t found) (is-e : e ≡ cut_allowed k) where
     eleven-same : (a && b) && (d && e) ≡ is_kept (rule11 (mask_table wide long) big Hs)
-    unfolding sized_in plain_in cut_in cut_allowed numbers_in
+    unfolding sized_in plain_in numbers_in
     eleven-same =
         let n = numbers_in big f t found in
-        (λ z. (is-a z && (is_b ∙ bits-read ∙ bits-allowed) z) && (is-d z && (is-e ∙ ap cut_allowed is-k) z))
+        (λ z. (is-a z && (is_b ∙ bits-read ∙ bits-allowed) z) && (is-d z && (is-e ∙ ap cut_allowed is-k ∙ cut-tests n.cut) z))
         ∙ in_order (eqb n.width wide) (eqb n.length long) (all (allows (just 1 ∷ [])) (values_of big Tag.bits Hs)) (allows codings n.compression) (eqb n.photometric 4)
-        (eqb n.samples 1) (allows (between 1 more ∷ []) n.rows) (eqb n.planar 1) (sixteens n.tilewidth) (sixteens n.tilelength) (eqb (number_at big f found subfile) 4)
+        (eqb n.samples 1) (rows_allowed n.cut) (planar_allowed n.planar) (tile_width_allowed n.cut) (tile_length_allowed n.cut) (eqb (number_at big f found subfile) 4)
         ∙ (λ z. Tests wide long (numbers-same z) (all (allows (just 1 ∷ [])) (values_of big Tag.bits Hs)) (kind-is z))
         ∙ sym (kept-eleven wide long (numbers_of big Hs) _ _)
         ∙ ap is_kept eleven-is
@@ -219,29 +192,20 @@ module _ (wide long : ℕ) {f : List ℕ} {big : Bool} {at c : ℕ} {t : Bool} {
       allowed : Allowed (mask_values wide long) (numbers_of big Hs) (all (allows (just 1 ∷ [])) (values_of big Tag.bits Hs))
       allowed = allowed-where eleven-kept
 
-      cut-same : k ≡ cut_from (numbers_of big Hs)
-      unfolding cut_in numbers_in
-      cut-same = is-k ∙ ap (λ (n : Numbers). cut_from n) numbers-same
+      cut-same : k ≡ (numbers_of big Hs).cut
+      unfolding numbers_in
+      cut-same = is-k ∙ ap (λ (n : Numbers). n.cut) numbers-same
 
-      pub countable : CutBytes k → wide ≤ 1000000 → long ≤ 1000000 → Countable k wide long
-      countable small x y =
-          record {
-            four_bytes = small;
-            width_high = x;
-            length_high = y;
-            rows = subst (λ (z : Cut). 0 < z.rows) (sym cut-same) allowed.rows_low;
-            tilewidth = subst (λ (z : Cut). 0 < z.tilewidth) (sym cut-same) allowed.tilewidth_low;
-            tilelength = subst (λ (z : Cut). 0 < z.tilelength) (sym cut-same) allowed.tilelength_low;
-          }
+      pub positive : Positive k
+      positive = subst Positive (sym cut-same) allowed.cut
 
-      module _ {p : ℕ} (is-p : p ≡ pieces_by k t wide long) {x y : ℕ} (is_x : x ≡ slot_of_offsets t) (is_y : y ≡ slot_of_byte_counts t) {u : Bool}
+      module _ {p : ℕ} (is-p : p ≡ pieces_by k wide long) {x y : ℕ} (is_x : x ≡ slot_of_offsets t) (is_y : y ≡ slot_of_byte_counts t) {u : Bool}
           (is-u : u ≡ agrees (at_slot found Index.bits).count (at_slot found x).count (at_slot found y).count p) where
-        pieces-same : p ≡ count_of_pieces (numbers_of big Hs) (tiled Hs)
-        unfolding pieces_by count_of_pieces
+        pieces-same : p ≡ count_of_pieces (numbers_of big Hs)
         pieces-same =
             let a = sym (exactly (numbers_of big Hs).width wide allowed.width) in
             let b = sym (exactly (numbers_of big Hs).length long allowed.length) in
-            is-p ∙ (λ z. pieces_by (cut-same z) (w.tiled_is z) (a z) (b z))
+            is-p ∙ (λ z. pieces_by (cut-same z) (a z) (b z))
 
         twelve-same : u ≡ is_kept (rule12 big Hs)
         unfolding mask_table all_one
@@ -254,7 +218,7 @@ module _ (wide long : ℕ) {f : List ℕ} {big : Bool} {at c : ℕ} {t : Bool} {
             let b = and-eq (bits_of big Hs).same _ (bits-allowed ∙ allowed.bits) in
             is-u
             ∙ (λ z. agrees (bits z) (offsets z) (bytecounts z) (pieces-same z))
-            ∙ sym (kept-twelve (numbers_of big Hs) (bits_of big Hs) (tiled Hs) _ _ _ (exactly _ 1 allowed.samples) b.0 (eqb-true _ 1 b.1))
+            ∙ sym (kept-twelve (numbers_of big Hs) (bits_of big Hs) _ _ _ (exactly _ 1 allowed.samples) b.0 (eqb-true _ 1 b.1))
             ∙ ap is_kept (twelve-is big Hs)
 
         pub refused-twelve : u ≡ false → Err 12 ≡ tagged_of (view_of (mask_table wide long) f big at c)

@@ -9,16 +9,18 @@ use borrow.Author.Tests.{eqb-true, eq-eqb, ne_eqb, eqb-false}
 use Rattle.paper.specs.Bytes.{num, build, elems}
 use Rattle.paper.specs.Layout.{size_of}
 use Rattle.paper.specs.Outcome.{breaks, first_of}
-use Rattle.paper.specs.Tests.{all, between, just, allows}
+use Rattle.paper.specs.Tests.{all, just, allows}
 use Rattle.paper.specs.Tag
-use Rattle.paper.specs.Tags.{more, sixteens, mask_values, Held, find, bytes_of, count_of, value_of, values_of}
+use Rattle.paper.specs.Tags.{mask_values, Held, find, bytes_of, count_of, value_of, values_of}
 use Rattle.paper.specs.declared.Outcome.{Outcome}
 use Rattle.paper.specs.declared.Outcome.TheVariants.{Kept as kept, Broken as broken}
-use Rattle.tags.specs.Numbers.{codings, bits_of, eleven_by, count_of_pieces, twelve_of}
+use Rattle.tags.specs.Numbers.{codings, bits_of, rows_allowed, planar_allowed, tile_width_allowed, tile_length_allowed, eleven_by, count_of_pieces, twelve_of}
+use Rattle.tags.specs.declared.Cut.{Cut}
+use Rattle.tags.specs.declared.Cut.TheVariants.{Strips, Tiles}
 use Rattle.tags.specs.declared.Numbers.{Numbers}
 use Rattle.tags.specs.declared.Bits.{Bits}
 use Rattle.tags.proofs.Values.{one_of}
-use Rattle.mask.specs.Values.{all_one, agrees}
+use Rattle.mask.specs.Values.{all_one, cut_allowed, agrees}
 
 abbrev pub is_kept : Outcome → Bool
 is_kept kept = true
@@ -46,10 +48,10 @@ Tests w l n single kind =
     && (allows codings n.compression
     && (eqb n.photometric 4
     && (eqb n.samples 1
-    && (allows (between 1 more ∷ []) n.rows
-    && (eqb n.planar 1
-    && (sixteens n.tilewidth
-    && (sixteens n.tilelength
+    && (rows_allowed n.cut
+    && (planar_allowed n.planar
+    && (tile_width_allowed n.cut
+    && (tile_length_allowed n.cut
     && eqb kind 4)))))))))
 
 pub kept-eleven : (w l : ℕ) (n : Numbers) (single : Bool) (kind : ℕ)
@@ -57,7 +59,13 @@ pub kept-eleven : (w l : ℕ) (n : Numbers) (single : Bool) (kind : ℕ)
 unfolding eleven_by
 kept-eleven w l n single kind = simp (kept_if, just-one, and-true)
 
--- and as they are made
+-- those of the cut, as they are made
+pub cut-tests : (c : Cut) → cut_allowed c ≡ rows_allowed c && (tile_width_allowed c && tile_length_allowed c)
+unfolding cut_allowed
+cut-tests (Strips rows) = sym (and-true _)
+cut-tests (Tiles width length) = refl
+
+-- and all of them
 pub in_order : (a b c d e g h i j k s : Bool)
     → ((a && b) && c) && ((d && (e && (g && (i && s)))) && (h && (j && k))) ≡ a && (b && (c && (d && (e && (g && (h && (i && (j && (k && s)))))))))
 in_order false b c d e g h i j k s = refl
@@ -111,11 +119,11 @@ one_bit big hs h = go (count_of Tag.bits hs) refl h
 
 -- ---- rule 12, where rule 11 is kept
 
-pub kept-twelve : (n : Numbers) (b : Bits) (t : Bool) (i x y : ℕ) → n.samples ≡ 1 → b.same ≡ true → b.first ≡ 1
-    → is_kept (twelve_of n b t i x y) ≡ agrees i x y (count_of_pieces n t)
-unfolding twelve_of agrees first_of count_of_pieces
-kept-twelve n b t i x y one same first =
-    rw (one, same, first) (go (eqb i 1) (eqb n.compression 2 || eqb n.compression 32773) (eqb x (count_of_pieces n t)) (eqb y (count_of_pieces n t)) Tag.bits Tag.compression _ _)
+pub kept-twelve : (n : Numbers) (b : Bits) (i x y : ℕ) → n.samples ≡ 1 → b.same ≡ true → b.first ≡ 1
+    → is_kept (twelve_of n b i x y) ≡ agrees i x y (count_of_pieces n)
+unfolding twelve_of agrees first_of
+kept-twelve n b i x y one same first =
+    rw (one, same, first) (go (eqb i 1) (eqb n.compression 2 || eqb n.compression 32773) (eqb x (count_of_pieces n)) (eqb y (count_of_pieces n)) Tag.bits Tag.compression _ _)
   where
     go : (a c x y : Bool) (p q r s : ℕ)
         → is_kept (first_of (breaks (not a || false) p ∷ breaks (c && false) q ∷ breaks (not x) r ∷ breaks (not y) s ∷ [])) ≡ a && (x && y)

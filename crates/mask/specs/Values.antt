@@ -1,14 +1,15 @@
 -- The values of a mask that rules 11 and 12 ask for, as they stand in a file, and what is tested of them. Assumes nothing.
-use Rattle.std.specs.Prelude.{ℕ, ◌+◌, ◌*◌, ◌≤◌, ◌<◌, Bool, cond, not, ◌&&◌, List, [], ◌∷◌, eqb, length}
+use Rattle.std.specs.Prelude.{ℕ, ◌+◌, ◌*◌, ◌≤◌, ◌<◌, ◌≡◌, Bool, false, ◌&&◌, List, [], ◌∷◌, eqb, length}
 use Rattle.paper.specs.Bytes.{run}
 use Rattle.paper.specs.Tests.{between, allows}
-use Rattle.paper.specs.Tags.{more, sixteens, rounded_up}
+use Rattle.paper.specs.Tags.{more, sixteens}
 use Rattle.tags.specs.Index
-use Rattle.tags.specs.Numbers.{codings, bits_in, short_in, number_in, number_if, Single, SingleIf}
+use Rattle.tags.specs.Numbers.{codings, bits_in, short_in, number_in, planar_in, Single, planar_allowed}
 use Rattle.tags.specs.declared.Bits.{Bits}
+use Rattle.tags.specs.declared.Cut.{Cut}
+use Rattle.tags.specs.declared.Cut.TheVariants.{Strips, Tiles}
 use Rattle.paper.specs.declared.Entry.{Entry}
 use Rattle.lines.specs.Ready.{at_slot}
-use Rattle.mask.specs.declared.Cut.{Cut}
 
 -- the slot of 254, behind those of a picture's tags
 abbrev pub subfile : ℕ
@@ -20,12 +21,6 @@ number_at big f found k = number_in big f (at_slot found k)
 
 abbrev pub SingleAt : List ℕ → List Entry → ℕ → Type 0
 SingleAt f found k = Single (length f) (at_slot found k)
-
-abbrev pub if_at : Bool → Bool → List ℕ → List Entry → ℕ → ℕ → ℕ
-if_at asked big f found k other = number_if asked big f (at_slot found k) other
-
-abbrev pub SingleIfAt : Bool → List ℕ → List Entry → ℕ → Type 0
-SingleIfAt asked f found k = SingleIf asked (length f) (at_slot found k)
 
 abbrev pub short_at : Bool → List ℕ → List Entry → ℕ → ℕ
 short_at big f found k = short_in big f (at_slot found k).start
@@ -61,7 +56,7 @@ pub record Plain (f : List ℕ) (found : List Entry) : Type 0 where
   pub compression : (at_slot found Index.compression).start + 2 ≤ length f
   pub photometric : (at_slot found Index.photometric).start + 2 ≤ length f
   pub samples : (at_slot found Index.samples).start + 2 ≤ length f
-  pub planar : SingleIfAt (not (eqb (at_slot found Index.planar).start 0)) f found Index.planar
+  pub planar : eqb (at_slot found Index.planar).start 0 ≡ false → SingleAt f found Index.planar
   pub kind : SingleAt f found subfile
 
 unfoldable pub plain_in : Bool → List ℕ → List Entry → Bool
@@ -69,44 +64,15 @@ plain_in big f found =
     allows codings (short_at big f found Index.compression)
     && (eqb (short_at big f found Index.photometric) 4
     && (eqb (short_at big f found Index.samples) 1
-    && (eqb (if_at (not (eqb (at_slot found Index.planar).start 0)) big f found Index.planar 1) 1
+    && (planar_allowed (planar_in big f (at_slot found Index.planar))
     && eqb (number_at big f found subfile) 4)))
 
 -- and those
-pub record CutReadable (f : List ℕ) (tiled : Bool) (found : List Entry) : Type 0 where
-  pub rows : SingleIfAt (not tiled) f found Index.rows_per_strip
-  pub tilewidth : SingleIfAt tiled f found Index.tile_width
-  pub tilelength : SingleIfAt tiled f found Index.tile_length
-
-unfoldable pub cut_in : Bool → List ℕ → Bool → List Entry → Cut
-cut_in big f tiled found =
-    record {
-      rows = if_at (not tiled) big f found Index.rows_per_strip 1;
-      tilewidth = if_at tiled big f found Index.tile_width 16;
-      tilelength = if_at tiled big f found Index.tile_length 16;
-    }
-
-pub record CutBytes (c : Cut) : Type 0 where
-  pub rows : c.rows < 4294967296
-  pub tilewidth : c.tilewidth < 4294967296
-  pub tilelength : c.tilelength < 4294967296
-
 unfoldable pub cut_allowed : Cut → Bool
-cut_allowed c = allows (between 1 more ∷ []) c.rows && (sixteens c.tilewidth && sixteens c.tilelength)
+cut_allowed (Strips rows) = allows (between 1 more ∷ []) rows
+cut_allowed (Tiles width length) = sixteens width && sixteens length
 
 -- ---- rule 12
-
--- what rule 11 leaves to be counted with
-pub record Countable (c : Cut) (width length : ℕ) : Type 0 where
-  pub four_bytes : CutBytes c
-  pub width_high : width ≤ 1000000
-  pub length_high : length ≤ 1000000
-  pub rows : 0 < c.rows
-  pub tilewidth : 0 < c.tilewidth
-  pub tilelength : 0 < c.tilelength
-
-unfoldable pub pieces_by : Cut → Bool → ℕ → ℕ → ℕ
-pieces_by c tiled width length = cond tiled (rounded_up width c.tilewidth * rounded_up length c.tilelength) (rounded_up length c.rows)
 
 unfoldable pub agrees : ℕ → ℕ → ℕ → ℕ → Bool
 agrees bits offsets bytecounts pieces = eqb bits 1 && (eqb offsets pieces && eqb bytecounts pieces)

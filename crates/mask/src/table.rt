@@ -20,7 +20,7 @@ pub const LINES: [Line; SLOTS] = table![
     [254, Always, LONG, LONG, 1, 1],
 ];
 
-// The slot of 254.
+// The slot of 254: a plain number, as those of a picture's tags.
 pub const SUBFILE: usize = 14;
 
 // How many there are.

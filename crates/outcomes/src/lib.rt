@@ -1,8 +1,8 @@
-// Outcomes of rules and the verdict of several, as code makes them one after the other. In a loop an outcome is a number: the place where the rule is
+// What rules answer, as code makes them one after the other: a verdict where one is broken. In a loop an outcome is a number: the place where the rule is
 // broken, or NONE.
 #![tactic(auto)]
 
-ghost use Rattle.std.specs.Prelude.{◌≡◌, cond, ◌≤◌, ◌<◌};
+ghost use Rattle.std.specs.Prelude.{◌≡◌, cond, ◌≤◌, ◌<◌, Err};
 ghost use Rattle.paper.specs.Outcome.{or_else, verdict};
 ghost use Rattle.outcomes.specs.Told.{told_by};
 ghost use Rattle.outcomes.specs.Ruled.{ruled};
@@ -35,7 +35,20 @@ pub fn told(place: usize) -> Outcome
     Outcome::Broken(place as u32)
 }
 
-// A rule's verdict where it is broken, and else what the later rules give.
+// The verdict that accepts.
+pub const ACCEPTED: Verdict = Verdict {
+    number: 0,
+    place: 0,
+};
+
+// A refusal, in place of what else would be answered.
+pub fn refused<T>(number: u32, place: u32) -> Result<T, Verdict>
+    ensures { result ≡ Err (verdict number place) }
+{
+    Err(Verdict { number, place })
+}
+
+// A rule's verdict where it is broken, and else what the later rules give. Unlike `rule` it is a verdict in either case.
 pub fn or_else(number: u32, outcome: Outcome, later: Verdict) -> Verdict
     ensures { result ≡ or_else number outcome later }
 {
@@ -53,6 +66,6 @@ pub fn rule(number: u32, outcome: Outcome) -> Result<(), Verdict>
 {
     match outcome {
         Outcome::Kept => Ok(()),
-        Outcome::Broken(place) => Err(Verdict { number, place }),
+        Outcome::Broken(place) => refused(number, place),
     }
 }

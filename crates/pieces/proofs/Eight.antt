@@ -18,12 +18,12 @@ room_as w x k n e h = rw e at h
 
 -- the same runs, with these widths and this byte order
 pub record ToldAs (p q : Places) : Type 0 where
-  pub offsets : p.offsets.now ≡ q.offsets.now
-  pub bytecounts : p.bytecounts.now ≡ q.bytecounts.now
+  pub offsets : p.offsets.bytes.now ≡ q.offsets.bytes.now
+  pub bytecounts : p.bytecounts.bytes.now ≡ q.bytecounts.bytes.now
   pub many : p.many ≡ q.many
   pub big : p.big ≡ q.big
-  pub wideoffsets : p.wideoffsets ≡ q.wideoffsets
-  pub widebytecounts : p.widebytecounts ≡ q.widebytecounts
+  pub wideoffsets : p.offsets.wide ≡ q.offsets.wide
+  pub widebytecounts : p.bytecounts.wide ≡ q.bytecounts.wide
 
 module _ (p q : Places) (t : ToldAs p q) where
   from-same : (i : ℕ) → pieces_from p i ≡ pieces_from q i

@@ -7,8 +7,8 @@ use Rattle.paper.specs.Tests.{all, some, keep}
 use Rattle.paper.specs.Pieces.{part}
 use Rattle.paper.specs.declared.Part.{Part}
 use Rattle.paper.proofs.Laws.{and-eq, all-at, length-build, get_or-build}
-use Rattle.pieces.specs.Gaps.{addable, Addable, wide, parts_of, named_at, named_parts, clear, narrowed, Found}
-use Rattle.pieces.specs.Reading.{listed}
+use Rattle.pieces.specs.Gaps.{addable, Addable, wide, parts_of, named_at, named_parts, clear, whole, narrowed, Found}
+use Rattle.pieces.specs.Reading.{listed, further_many}
 use Rattle.pieces.specs.declared.Gap.{Gap}
 use Rattle.pieces.specs.declared.listing.Listing.{Listing}
 use Rattle.pieces.proofs.Gaps.{Around, around-none, around-narrowed, found-gap}
@@ -22,10 +22,6 @@ part-low ps i d h l =
     (ltb-true _ _ b.0, ltb-true _ _ b.1)
 
 -- ---- gap: that of the whole file, narrowed by part after part
-
--- the gap of the whole file
-abbrev pub start : ℕ → Gap
-start n = record { lo = 8; hi = n }
 
 -- the gap with some parts
 abbrev pub narrowed_by : ℕ → Gap → List Part → Gap
@@ -85,13 +81,13 @@ module _ (s n : ℕ) where
       go true e x = around-swap (keep wide ps) p seen _ _ x
       go false e x = x
 
-  pub gap-found : 8 ≤ s → (l : Listing) (i : ℕ) → i ≤ l.many → l.many ≤ i → (g : Gap)
-      → g ≡ narrowed_by s (narrowed_by s (start n) l.parts.now) (build (named_at l.big l.further.now) 0 i) → Found s n (listed l) g
+  pub gap-found : 8 ≤ s → (l : Listing) (i : ℕ) → i ≤ further_many l → further_many l ≤ i → (g : Gap)
+      → g ≡ narrowed_by s (narrowed_by s (whole n) l.parts.now) (build (named_at l.big l.further.now) 0 i) → Found s n (listed l) g
   unfolding listed named_parts parts_of
   gap-found h l i a b g e =
-      let all-of : i ≡ l.many = omega arith in
-      let first = around-all l.parts.now [] (start n) (around-none s n h) in
-      let last = around-all (build (named_at l.big l.further.now) 0 l.many) (keep wide l.parts.now) _ (rw append-nil at first) in
+      let all-of : i ≡ further_many l = omega arith in
+      let first = around-all l.parts.now [] (whole n) (around-none s n h) in
+      let last = around-all (build (named_at l.big l.further.now) 0 (further_many l)) (keep wide l.parts.now) _ (rw append-nil at first) in
       rw (e, all-of) (found-gap s n _ _ last)
 
 -- ---- meets: one part after another
@@ -156,7 +152,7 @@ all-append ok (p ∷ ps) qs = ap (λ (x : Bool). ok p && x) (all-append ok ps qs
 
 module _ (l : Listing) (low high : ℕ) where
   abbrev Named : List Part
-  Named = build (named_at l.big l.further.now) 0 l.many
+  Named = build (named_at l.big l.further.now) 0 (further_many l)
 
   abbrev Met : List Part → Bool
   Met ps = some (met low high) ps
@@ -173,18 +169,18 @@ module _ (l : Listing) (low high : ℕ) where
       ap not (all-append (clear low high) (keep wide Named) (keep wide l.parts.now)) ∙ either-not _ _
       ∙ (λ i. kept-met low high Named i || kept-met low high l.parts.now i)
 
-  named-is : (k : ℕ) → k < l.many → met low high (get_or Named k None) ≡ met low high (named_at l.big l.further.now k)
-  named-is k h = ap (met low high) (get_or-build (named_at l.big l.further.now) None 0 l.many k h ∙ ap (named_at l.big l.further.now) (zero-add k))
+  named-is : (k : ℕ) → k < further_many l → met low high (get_or Named k None) ≡ met low high (named_at l.big l.further.now k)
+  named-is k h = ap (met low high) (get_or-build (named_at l.big l.further.now) None 0 (further_many l) k h ∙ ap (named_at l.big l.further.now) (zero-add k))
 
-  pub meets-part : (k : ℕ) → k < length l.parts.now → met low high (get_or l.parts.now k None) ≡ true → true ≡ Meets
-  meets-part k h e = sym (meets-is ∙ or_right _ _ (some-at (met low high) l.parts.now k None h e))
+  pub meets_part : (k : ℕ) → k < length l.parts.now → met low high (get_or l.parts.now k None) ≡ true → true ≡ Meets
+  meets_part k h e = sym (meets-is ∙ or_right _ _ (some-at (met low high) l.parts.now k None h e))
 
-  pub meets-named : (k : ℕ) → k < l.many → met low high (named_at l.big l.further.now k) ≡ true → true ≡ Meets
-  meets-named k h e = sym (meets-is ∙ or_left _ _ (some-at (met low high) Named k None (rw length-build h) (named-is k h ∙ e)))
+  pub meets_named : (k : ℕ) → k < further_many l → met low high (named_at l.big l.further.now k) ≡ true → true ≡ Meets
+  meets_named k h e = sym (meets-is ∙ or_left _ _ (some-at (met low high) Named k None (rw length-build h) (named-is k h ∙ e)))
 
-  pub meets-none : ((k : ℕ) → k < length l.parts.now → met low high (get_or l.parts.now k None) ≡ false)
-      → ((k : ℕ) → k < l.many → met low high (named_at l.big l.further.now k) ≡ false) → false ≡ Meets
-  meets-none h e =
+  pub meets_none : ((k : ℕ) → k < length l.parts.now → met low high (get_or l.parts.now k None) ≡ false)
+      → ((k : ℕ) → k < further_many l → met low high (named_at l.big l.further.now k) ≡ false) → false ≡ Meets
+  meets_none h e =
       sym (meets-is ∙ or_from _ _
-      (some-none (met low high) Named None (λ k q. let r : k < l.many = rw length-build at q in named-is k r ∙ e k r))
+      (some-none (met low high) Named None (λ k q. let r : k < further_many l = rw length-build at q in named-is k r ∙ e k r))
       (some-none (met low high) l.parts.now None h))

@@ -2,6 +2,7 @@
 -- `judge_within` and of `clashes_all`. Assumes nothing.
 use Rattle.std.proofs.Common.{◌≡◌, ℕ, zero, suc, ◌+◌, ◌-◌, ◌<◌, ◌≤◌, min, max, Bool, true, false, cond, not, ◌||◌, eqb, ltb, Option, Some, None, IfSome, Ok, Err, List, [], ◌∷◌, sym, refl, ap, ◌∙◌, suc-le-suc, zero-le, arith, ltb-false, le-ltb}
 use Rattle.std.proofs.lemmas.Bool.{not-false}
+use Rattle.std.specs.Bool.{then_some}
 use mathlib.Core.Bool.{false≢true}
 use native.Mathlib.Nat.{sub-zero}
 use borrow.Author.Tests.{eqb-false}
@@ -14,10 +15,8 @@ use Rattle.paper.specs.Pieces.{Piece, shares, place_at, places_of, bad_piece, to
 use Rattle.paper.specs.declared.Part.{Part}
 use Rattle.paper.specs.declared.Outcome.{Outcome}
 use Rattle.paper.specs.declared.Outcome.TheVariants.{Kept as kept, Broken as broken}
-use Rattle.paper.specs.declared.Verdict.{Verdict}
 use Rattle.paper.proofs.Laws.{build-step, or-false, or-both, kept-cond}
-use Rattle.paper.proofs.Loops.{build-end}
-use Rattle.pieces.specs.Gaps.{clear, leaves, out, Found}
+use Rattle.pieces.specs.Gaps.{clear, whole, leaves, out, Found}
 use Rattle.pieces.specs.Reading.{pieces_in, pieces_from, body, Fetched, Opened, Reached, left}
 use Rattle.pieces.specs.Spans.{no_span, lone, widened, span_from, span_of, within_of, places_judged, placed_of}
 use Rattle.pieces.specs.declared.Gap.{Gap}
@@ -93,12 +92,12 @@ module _ (p : Places) where
 
   from_start : All ≡ From 0
   unfolding pieces_in pieces_from places_of
-  from_start = ap (build (place_at p.big (width p.wideoffsets) p.offsets.now (width p.widebytecounts) p.bytecounts.now) 0) (sym (sub-zero p.many))
+  from_start = ap (build (place_at p.big (width p.offsets.wide) p.offsets.bytes.now (width p.bytecounts.wide) p.bytecounts.bytes.now) 0) (sym (sub-zero p.many))
 
   -- no place is left
-  pub from_end : (i : ℕ) → i ≤ p.many → p.many ≤ i → From i ≡ []
-  unfolding pieces_from
-  from_end i l m = let e : i ≡ p.many = omega arith in rw e (build-end (place_at p.big (width p.wideoffsets) p.offsets.now (width p.widebytecounts) p.bytecounts.now) p.many)
+  from_end : (i : ℕ) → p.many ≤ i → From i ≡ []
+  unfolding pieces_from build
+  from_end i m = let e : p.many - i ≡ 0 = omega arith in rw e
 
   -- ---- a place that was fetched
 
@@ -106,7 +105,7 @@ module _ (p : Places) where
     here : From s.at ≡ record { index = s.at; place = body s.place } ∷ From (s.at + 1)
     unfolding pieces_from place_at
     here =
-        build-step (place_at p.big (width p.wideoffsets) p.offsets.now (width p.widebytecounts) p.bytecounts.now) s.at p.many f.low
+        build-step (place_at p.big (width p.offsets.wide) p.offsets.bytes.now (width p.bytecounts.wide) p.bytecounts.bytes.now) s.at p.many f.low
         ∙ ap (λ (x : Part). record { index = s.at; place = x } ∷ From (s.at + 1)) (sym f.is)
 
     bad-here : (n : ℕ) → eqb s.place.len 0 || (ltb s.place.start 8 || ltb n (s.place.start + s.place.len)) ≡ true → rule13 n (From s.at) ≡ broken s.at
@@ -134,7 +133,7 @@ module _ (p : Places) where
   pub opened-none : p.many ≡ 0 → Opened p (record { stop = None; span = no_span })
   unfolding span_of span_from
   opened-none z =
-      let none = from_start ∙ from_end 0 (omega arith) (omega arith) in
+      let none = from_start ∙ from_end 0 (omega arith) in
       record { stop = tt; all_left = none; span = ap span_of none }
 
   pub opened-some : (x : Place) → Fetched p (record { at = 0; place = x }) → (t : Span) → t ≡ lone (body x)
@@ -153,18 +152,14 @@ module _ (p : Places) where
   module _ (spanned : Bool) (from : ℕ) (g : Gap) (given : Span) where
     pub record Passed (i : ℕ) (span : Span) : Type 0 where
       pub low : from ≤ i
-      pub high : i ≤ p.many
       pub thirteen : (n : ℕ) → 8 ≤ g.lo → g.hi ≤ n → rule13 n (From from) ≡ rule13 n (From i)
       pub fourteen : (ps : List Part) → (g.lo < g.hi → all (clear g.lo g.hi) ps ≡ true) → rule14 ps (From from) ≡ rule14 ps (From i)
       pub wider : spanned ≡ true → span_from given (From from) ≡ span_from span (From i)
 
-    pub passed-start : from ≤ p.many → Passed from given
-    passed-start h = record { low = omega arith; high = h; thirteen = λ n l k. refl; fourteen = λ ps k. refl; wider = λ t. refl }
-
     module _ (i : ℕ) (span : Span) (q : Passed i span) where
       pub passed-end : p.many ≤ i → Reached p spanned from g given (record { stop = None; span = span })
       passed-end m =
-          let e = from_end i q.high m in
+          let e = from_end i m in
           record {
             stop = tt;
             thirteen = λ n l h. q.thirteen n l h ∙ ap (rule13 n) e;
@@ -173,15 +168,10 @@ module _ (p : Places) where
           }
 
       module _ (x : Place) (f : Fetched p (record { at = i; place = x })) (o : Bool) (is-o : o ≡ out g (body x)) where
-        pub passed-stop : o ≡ true → Reached p spanned from g given (record { stop = Some (record { at = i; place = x }); span = span })
-        passed-stop t =
-            record { stop = (q.low, f, sym is-o ∙ t); thirteen = q.thirteen; fourteen = q.fourteen; wider = q.wider }
-
         pub passed-turn : o ≡ false → (w : Span) → w ≡ cond spanned (widened span (body x)) span → Passed (i + 1) w
         passed-turn t w is-w =
             record {
               low = let l = q.low in omega arith;
-              high = let l = f.low in omega arith;
               thirteen = λ n l h. q.thirteen n l h ∙ good-here _ f n
                   (or-both _ _ rest.0 (or-both _ _ (le-ltb x.start 8 (omega (arith, before))) (le-ltb n (x.start + x.len) (omega (arith, behind)))));
               fourteen = λ ps h. q.fourteen ps h ∙ free-here _ f ps
@@ -203,25 +193,18 @@ module _ (p : Places) where
 
   -- ---- a search over the places that lie in the file, behind its head
 
-  module _ (n from : ℕ) (spanned : Bool) (given : Span) (r : Reach) (re : Reached p spanned from (record { lo = 8; hi = n }) given r) where
+  module _ (n from : ℕ) (spanned : Bool) (given : Span) (r : Reach) (re : Reached p spanned from (whole n) given r) where
     on : rule13 n (From from) ≡ rule13 n (left p r.stop)
     on = re.thirteen n (omega arith) (omega arith)
 
-    file-none : r.stop ≡ None → rule13 n (From from) ≡ kept
+    pub file-none : r.stop ≡ None → rule13 n (From from) ≡ kept
     unfolding rule13 first_bad
     file-none e = on ∙ ap (λ (o : Option Stop). rule13 n (left p o)) e
 
-    file-bad : (s : Stop) → r.stop ≡ Some s → rule13 n (From from) ≡ broken s.at
+    pub file-bad : (s : Stop) → r.stop ≡ Some s → rule13 n (From from) ≡ broken s.at
     file-bad s e =
         let h = rw e at re.stop in
         on ∙ ap (λ (o : Option Stop). rule13 n (left p o)) e ∙ bad-here s h.1 n (or_turned (ltb s.place.start 8) (eqb s.place.len 0) (ltb n (s.place.start + s.place.len)) h.2)
-
-    -- after_clash
-    pub later-none : r.stop ≡ None → (clash : ℕ) → verdict 14 clash ≡ or_else 13 (rule13 n (From from)) (verdict 14 clash)
-    later-none e clash = rw (file-none e)
-
-    pub later-bad : (s : Stop) → r.stop ≡ Some s → (clash : ℕ) → verdict 13 s.at ≡ or_else 13 (rule13 n (From from)) (verdict 14 clash)
-    later-bad s e clash = rw (file-bad s e)
 
   -- ---- the answers, by the outcomes of the two rules
 
@@ -239,20 +222,20 @@ module _ (p : Places) where
     unfolding placed_of places_judged first ruled
     answer-13 i h = rw h refl
 
-    answer-14 : (i : ℕ) (v : Verdict) → rule14 ps All ≡ broken i → v ≡ or_else 13 (rule13 n All) (verdict 14 i) → Err v ≡ placed_of spanned n ps All
+    answer-14 : (i : ℕ) → rule14 ps All ≡ broken i → Err (or_else 13 (rule13 n All) (verdict 14 i)) ≡ placed_of spanned n ps All
     unfolding placed_of places_judged first ruled
-    answer-14 i v h e = rw (e, h) (go (rule13 n All))
+    answer-14 i h = rw h (go (rule13 n All))
       where
-        go : (o : Outcome) → Err (or_else 13 o (verdict 14 i)) ≡ ruled (or_else 13 o (verdict 14 i)) (cond spanned (span_of All) no_span)
+        go : (o : Outcome) → Err (or_else 13 o (verdict 14 i)) ≡ ruled (or_else 13 o (verdict 14 i)) (cond spanned (Some (span_of All)) None)
         go kept = refl
         go (broken j) = refl
 
-    answer-0 : rule13 n All ≡ kept → rule14 ps All ≡ kept → (s : Span) → (spanned ≡ true → span_of All ≡ s) → Ok (cond spanned s no_span) ≡ placed_of spanned n ps All
+    answer-0 : rule13 n All ≡ kept → rule14 ps All ≡ kept → (s : Span) → (spanned ≡ true → span_of All ≡ s) → Ok (then_some spanned s) ≡ placed_of spanned n ps All
     unfolding placed_of places_judged first ruled
     answer-0 h e s k = rw (h, e) (ap Ok (go spanned k))
       where
-        go : (b : Bool) → (b ≡ true → span_of All ≡ s) → cond b s no_span ≡ cond b (span_of All) no_span
-        go true k = sym (k refl)
+        go : (b : Bool) → (b ≡ true → span_of All ≡ s) → then_some b s ≡ cond b (Some (span_of All)) None
+        go true k = ap Some (sym (k refl))
         go false k = refl
 
     -- ---- judge_places: a place was fetched, or none is left, and the places before keep both rules and have the given span
@@ -263,12 +246,10 @@ module _ (p : Places) where
       pub fourteen : rule14 ps All ≡ rule14 ps (left p next)
       pub wider : spanned ≡ true → span_of All ≡ span_from span (left p next)
 
-    pub standing-end : (next : Option Stop) (span : Span) → Standing next span → next ≡ None → (sp : Bool) → spanned ≡ sp
-        → Ok (cond sp span no_span) ≡ placed_of spanned n ps All
+    pub standing-end : (next : Option Stop) (span : Span) → Standing next span → next ≡ None → Ok (then_some spanned span) ≡ placed_of spanned n ps All
     unfolding rule13 rule14 first_bad span_from
-    standing-end next span st e sp same =
-        ap (λ (b : Bool). Ok (cond b span no_span)) (sym same)
-        ∙ answer-0 (st.thirteen ∙ ap (λ (o : Option Stop). rule13 n (left p o)) e) (st.fourteen ∙ ap (λ (o : Option Stop). rule14 ps (left p o)) e) span
+    standing-end next span st e =
+        answer-0 (st.thirteen ∙ ap (λ (o : Option Stop). rule13 n (left p o)) e) (st.fourteen ∙ ap (λ (o : Option Stop). rule14 ps (left p o)) e) span
         (λ t. st.wider t ∙ ap (λ (o : Option Stop). span_from span (left p o)) e)
 
     module _ (s : Stop) (span : Span) (st : Standing (Some s) span) (bad : Bool)
@@ -294,8 +275,8 @@ module _ (p : Places) where
           clash-at t =
               st.fourteen ∙ clash-here s st.fetched ps (f.clash s.place.len (some_bytes s.place.len fine.0) (ltb-false _ _ inside.1) (sym is-o ∙ t))
 
-          pub standing-clash : o ≡ true → (v : Verdict) → v ≡ or_else 13 (rule13 n (From (s.at + 1))) (verdict 14 s.at) → Err v ≡ placed_of spanned n ps All
-          standing-clash t v e = answer-14 s.at v (clash-at t) (e ∙ sym (ap (λ (x : Outcome). or_else 13 x (verdict 14 s.at)) next-13))
+          pub standing-clash : o ≡ true → Err (or_else 13 (rule13 n (From (s.at + 1))) (verdict 14 s.at)) ≡ placed_of spanned n ps All
+          standing-clash t = ap (λ (x : Outcome). Err (or_else 13 x (verdict 14 s.at))) (sym next-13) ∙ answer-14 s.at (clash-at t)
 
           module _ (t : o ≡ false) where
             halves : (ltb s.place.start g.lo ≡ false) × (ltb g.hi (s.place.start + s.place.len) ≡ false)
@@ -319,11 +300,10 @@ module _ (p : Places) where
   -- ---- judge_within, from the first place and a search over the later ones
 
   module _ (n : ℕ) (first : Reach) (o : Opened p first) where
-    pub within-none : first.stop ≡ None → Ok no_span ≡ within_of n All
-    unfolding rule13 first_bad span_of
+    pub within-none : first.stop ≡ None → Ok first.span ≡ within_of n All
+    unfolding rule13 first_bad span_from
     within-none e =
-        let none = o.all_left ∙ ap (left p) e in
-        within-good n no_span (ap (rule13 n) none) (ap span_of none)
+        within-good n first.span (ap (rule13 n) (o.all_left ∙ ap (left p) e)) (o.span ∙ ap (λ (s : Option Stop). span_from first.span (left p s)) e)
 
     module _ (s : Stop) (e : first.stop ≡ Some s) (bad : Bool)
         (is-bad : bad ≡ eqb s.place.len 0 || (ltb s.place.start 8 || ltb n (s.place.start + s.place.len))) where
@@ -336,7 +316,7 @@ module _ (p : Places) where
       pub within-first : bad ≡ true → Err (verdict 13 s.at) ≡ within_of n All
       within-first t = within-bad n s.at (ap (rule13 n) start ∙ bad-here s opened.1 n (sym is-bad ∙ t))
 
-      module _ (ok : bad ≡ false) (r : Reach) (re : Reached p true 1 (record { lo = 8; hi = n }) first.span r) where
+      module _ (ok : bad ≡ false) (r : Reach) (re : Reached p true 1 (whole n) first.span r) where
         one : s.at + 1 ≡ 1
         one = omega (arith, opened.0)
 

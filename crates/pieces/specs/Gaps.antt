@@ -34,6 +34,10 @@ named_parts big s many = keep wide (build (named_at big s) 0 many)
 unfoldable pub clear : ℕ → ℕ → Part → Bool
 clear lo hi p = p.len == 0 || (nat_le (p.start + p.len) lo || nat_le hi p.start)
 
+-- the gap that a file of n bytes is, behind its head
+abbrev pub whole : ℕ → Gap
+whole n = record { lo = 8; hi = n }
+
 -- a place that does not lie in a gap
 abbrev pub leaves : Gap → Part → Bool
 leaves g p = nat_lt p.start g.lo || nat_lt g.hi (p.start + p.len)

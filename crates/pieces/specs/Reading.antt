@@ -1,5 +1,5 @@
 -- What the structs of this crate stand for: places of a file, a reading list, and how far a search over the places came. Assumes nothing.
-use Rattle.std.specs.Prelude.{◌≡◌, ℕ, ◌-◌, ◌*◌, ◌<◌, ◌≤◌, Bool, true, Option, Some, None, IfSome, List, [], ◌++◌}
+use Rattle.std.specs.Prelude.{◌≡◌, ℕ, ◌-◌, ◌*◌, ◌/◌, ◌<◌, ◌≤◌, Bool, true, Option, Some, None, IfSome, List, [], ◌++◌, length}
 use Rattle.order.specs.Width.{width}
 use Rattle.paper.specs.Bytes.{num, build}
 use Rattle.paper.specs.Tests.{all}
@@ -17,19 +17,23 @@ use Rattle.pieces.specs.Spans.{lone, span_from, span_of}
 
 -- the places
 unfoldable pub pieces_in : Places → List Piece
-pieces_in p = places_of p.big (width p.wideoffsets) p.offsets.now (width p.widebytecounts) p.bytecounts.now p.many
+pieces_in p = places_of p.big (width p.offsets.wide) p.offsets.bytes.now (width p.bytecounts.wide) p.bytecounts.bytes.now p.many
 
 -- those from i on
 unfoldable pub pieces_from : Places → ℕ → List Piece
-pieces_from p i = build (place_at p.big (width p.wideoffsets) p.offsets.now (width p.widebytecounts) p.bytecounts.now) i (p.many - i)
+pieces_from p i = build (place_at p.big (width p.offsets.wide) p.offsets.bytes.now (width p.bytecounts.wide) p.bytecounts.bytes.now) i (p.many - i)
 
 -- place i
 abbrev pub place_in : Places → ℕ → Part
-place_in p i = part (num p.big (width p.wideoffsets) p.offsets.now (width p.wideoffsets * i)) (num p.big (width p.widebytecounts) p.bytecounts.now (width p.widebytecounts * i))
+place_in p i = part (num p.big (width p.offsets.wide) p.offsets.bytes.now (width p.offsets.wide * i)) (num p.big (width p.bytecounts.wide) p.bytecounts.bytes.now (width p.bytecounts.wide * i))
+
+-- how many further entries a list has
+abbrev pub further_many : Listing → ℕ
+further_many l = length l.further.now / 12
 
 -- the reading list: what the further entries name, and the parts
 unfoldable pub listed : Listing → List Part
-listed l = named_parts l.big l.further.now l.many ++ parts_of l.parts.now
+listed l = named_parts l.big l.further.now (further_many l) ++ parts_of l.parts.now
 
 -- a place as a part of the file
 abbrev pub body : Place → Part

@@ -1,5 +1,5 @@
 -- The span of some places: from the lowest start up to the highest end. Assumes nothing.
-use Rattle.std.specs.Prelude.{ℕ, ◌+◌, min, max, Bool, cond, List, [], ◌∷◌, Result}
+use Rattle.std.specs.Prelude.{ℕ, ◌+◌, min, max, Bool, cond, Option, Some, None, List, [], ◌∷◌, Result}
 use Rattle.outcomes.specs.Ruled.{ruled}
 use Rattle.paper.specs.Outcome.{first, ◌▸◌}
 use Rattle.paper.specs.Pieces.{Piece, rule13, rule14}
@@ -36,5 +36,5 @@ unfoldable pub places_judged : ℕ → List Part → List Piece → Verdict
 places_judged n parts ss = first (13 ▸ rule13 n ss ∷ 14 ▸ rule14 parts ss ∷ [])
 
 -- and where both are kept the span of the places, if one is asked for
-unfoldable pub placed_of : Bool → ℕ → List Part → List Piece → Result Span Verdict
-placed_of spanned n parts ss = ruled (places_judged n parts ss) (cond spanned (span_of ss) no_span)
+unfoldable pub placed_of : Bool → ℕ → List Part → List Piece → Result (Option Span) Verdict
+placed_of spanned n parts ss = ruled (places_judged n parts ss) (cond spanned (Some (span_of ss)) None)

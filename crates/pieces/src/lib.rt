@@ -3,12 +3,12 @@
 // further entries, so that this serves every kind of picture.
 #![tactic(auto)]
 
-ghost use Rattle.std.specs.Prelude.{◌≡◌, ◌+◌, ◌<◌, ◌≤◌, ◌||◌, ◌==◌, nat_lt};
+ghost use Rattle.std.specs.Prelude.{◌≡◌, ◌+◌, ◌<◌, ◌||◌, ◌==◌, nat_lt, Err};
 ghost use Rattle.paper.specs.Outcome.{or_else, verdict};
 ghost use Rattle.paper.specs.Pieces.{part, touches, rule13};
 ghost use Rattle.paper.specs.Tests.{some};
 ghost use Rattle.paper.specs.declared.Outcome.TheVariants.{Kept as kept};
-ghost use Rattle.pieces.specs.Gaps.{leaves, narrowed};
+ghost use Rattle.pieces.specs.Gaps.{whole, leaves, narrowed};
 ghost use Rattle.pieces.specs.Reading.{pieces_in, pieces_from, listed};
 ghost use Rattle.pieces.specs.Spans.{lone, widened, span_of, within_of, placed_of};
 
@@ -16,8 +16,8 @@ mod listing;
 mod places;
 
 pub use listing::Listing;
-use paper::{Part, Verdict};
-pub use places::{Place, Places, Reach, Stop};
+use paper::{Outcome, Part, Verdict};
+pub use places::{Place, Places, Reach, Run, Stop};
 
 // A gap of the reading list around a byte: no byte from lo up to hi is on it. Where the byte itself is on the list, it lies below lo. Then it
 // may end below where it begins, so that it does so or not is no fact of the struct.
@@ -28,6 +28,13 @@ pub struct Gap {
 }
 
 impl Gap {
+    // A file of n bytes, behind its head.
+    pub(crate) fn of_file(n: usize) -> Gap
+        ensures { result ≡ whole n }
+    {
+        Gap { lo: 8, hi: n }
+    }
+
     // The gap around a byte with one part more. One of at most 4 bytes lies in an entry, and so in the part of the whole directory: it counts as starting
     // at 0. Nothing here depends on a test that the processor would have to guess.
     #[tactic(auto, unfolding(crate::specs::Gaps::narrowed))]
@@ -66,7 +73,8 @@ pub struct Span {
 }
 
 impl Span {
-    // That of no place.
+    // That of no place. The const parameter of a search says whether a span is kept, and one that keeps none is lent this: an Option of a span beside that
+    // parameter would say the same twice.
     const NONE: Span = Span { low: 0, high: 0 };
 
     // That of one.
@@ -98,73 +106,76 @@ fn is_bad(p: Place, n: usize) -> bool
     (p.len == 0) | ((p.start < 8) | (n < p.start + p.len))
 }
 
-// The verdict on a place that breaks rule 13.
-fn thirteen(bad: Stop) -> Verdict
+// The refusal of a place that breaks rule 13.
+fn thirteen<T>(bad: Stop) -> Result<T, Verdict>
     requires { bad.at < 4294967296 }
-    ensures { result ≡ verdict 13 bad.at }
+    ensures { result ≡ Err (verdict 13 bad.at) }
 {
-    Verdict {
-        number: 13,
-        place: bad.at as u32,
-    }
+    outcomes::refused(13, bad.at as u32)
 }
 
-// Rule 13 from a place on, where an earlier place breaks rule 14 at `clash`: the search passes by all that lie in the file, behind its head.
-fn after_clash(places: &Places, from: usize, n: usize, clash: u32) -> Verdict
-    requires { (from ≤ places.now.many) × (8 ≤ n) × (n ≤ 4294967295) }
-    ensures { result ≡ or_else 13 (rule13 n (pieces_from places.now from)) (verdict 14 clash) }
+// Rule 13 from a place on: the search passes by all that lie in the file, behind its head.
+fn thirteen_from(places: &Places, from: usize, n: usize) -> Outcome
+    ensures { result ≡ rule13 n (pieces_from places.now from) }
 {
-    let file = Gap { lo: 8, hi: n };
+    let file = Gap::of_file(n);
     match places.skip::<false>(from, file, Span::NONE).stop {
-        Some(later) => thirteen(later),
-        None => Verdict {
-            number: 14,
-            place: clash,
-        },
+        Some(bad) => Outcome::Broken(bad.at as u32),
+        None => Outcome::Kept,
     }
 }
 
-// Rules 13 and 14 over places of a file of n bytes, with that reading list: where both are kept, the span of the places if one is asked for.
+// The same, where an earlier place breaks rule 14 at `clash`.
+fn after_clash<T>(places: &Places, from: usize, n: usize, clash: u32) -> Result<T, Verdict>
+    ensures { result ≡ Err (or_else 13 (rule13 n (pieces_from places.now from)) (verdict 14 clash)) }
+{
+    let fourteen = Verdict {
+        number: 14,
+        place: clash,
+    };
+    Err(outcomes::or_else(13, thirteen_from(places, from, n), fourteen))
+}
+
+// Rules 13 and 14 over places of a file of n bytes, with that reading list: where both are kept, the span of the places if one is asked for. `spanned` is the
+// flag of the searches, and no Option of a span: there is none yet to hand in.
 pub fn judge_places(
     places: &Places,
     n: usize,
     list: &Listing,
     spanned: bool,
-) -> Result<Span, Verdict>
-    requires { (8 ≤ n) × (n ≤ 4294967295) }
+) -> Result<Option<Span>, Verdict>
     ensures { result ≡ placed_of spanned n (listed list.now) (pieces_in places.now) }
 {
     let mut reach = places.first();
     while let Some(stop) = reach.stop {
         let place = stop.place;
         if is_bad(place, n) {
-            return Err(thirteen(stop));
+            return thirteen(stop);
         }
         let gap = list.gap(n, place.start);
         if gap.is_left_by(place) {
-            return Err(after_clash(places, stop.at + 1, n, stop.at as u32));
+            return after_clash(places, stop.at + 1, n, stop.at as u32);
         }
         reach = places.skip_on(spanned, stop.at + 1, gap, reach.span.with(place));
     }
-    Ok(if spanned { reach.span } else { Span::NONE })
+    Ok(spanned.then_some(reach.span))
 }
 
 // Rule 13 alone, and the span of the places where it is kept.
 pub fn judge_within(places: &Places, n: usize) -> Result<Span, Verdict>
-    requires { (8 ≤ n) × (n ≤ 4294967295) }
     ensures { result ≡ within_of n (pieces_in places.now) }
 {
     let first = places.first();
     let Some(stop) = first.stop else {
-        return Ok(Span::NONE);
+        return Ok(first.span);
     };
     if is_bad(stop.place, n) {
-        return Err(thirteen(stop));
+        return thirteen(stop);
     }
-    let file = Gap { lo: 8, hi: n };
+    let file = Gap::of_file(n);
     let reach = places.skip::<true>(1, file, first.span);
     match reach.stop {
-        Some(later) => Err(thirteen(later)),
+        Some(later) => thirteen(later),
         None => Ok(reach.span),
     }
 }

@@ -6,18 +6,24 @@ ghost use Rattle.paper.specs.Pieces.{part};
 ghost use Rattle.pieces.specs.Gaps.{out};
 
 use crate::{Gap, Span};
-// So many places: their offsets stand in a run of LONGs (wide) or SHORTs, and so do their byte counts.
+
+// A run of numbers, which are LONGs (wide) or SHORTs.
+#[derive(Clone, Copy)]
+pub struct Run<'a> {
+    pub bytes: &'a [u8],
+    pub wide: bool,
+}
+
+// So many places: their offsets stand in a run, and so do their byte counts.
 #[derive(Clone, Copy)]
 pub struct Places<'a> {
-    pub offsets: &'a [u8],
-    pub wideoffsets: bool,
-    pub bytecounts: &'a [u8],
-    pub widebytecounts: bool,
+    pub offsets: Run<'a>,
+    pub bytecounts: Run<'a>,
     pub big: bool,
     pub many: usize,
     pub ghost few: { many < 4294967296 },
-    pub ghost offsets_room: { width wideoffsets * many ≤ length offsets.now },
-    pub ghost byte_counts_room: { width widebytecounts * many ≤ length bytecounts.now },
+    pub ghost offsets_room: { width offsets.wide * many ≤ length offsets.bytes.now },
+    pub ghost byte_counts_room: { width bytecounts.wide * many ≤ length bytecounts.bytes.now },
 }
 
 // One of them, as two numbers of at most 32 bits say: so many bytes from a start.
@@ -43,14 +49,14 @@ pub struct Reach {
     pub span: Span,
 }
 
-// Whether a place has no bytes or does not lie in a gap. Its ends are counted from the low one of the gap: a place that starts before that wraps around.
+// Whether a place has no bytes or does not lie in a gap. Its ends are counted from the low one of the gap: a place that starts before that wraps around. A gap
+// that ends below where it begins holds no place.
 fn is_out(g: Gap, p: Place) -> bool
-    requires { g.lo ≤ g.hi }
     ensures { result ≡ out g (part p.start p.len) }
 {
     let from = p.start.wrapping_sub(g.lo);
     let to = from.wrapping_add(p.len);
-    (to <= from) | (g.hi - g.lo < to)
+    (to <= from) | (g.hi.saturating_sub(g.lo) < to)
 }
 
 impl<'a> Places<'a> {
@@ -59,12 +65,12 @@ impl<'a> Places<'a> {
 
     // Place i. The byte order and the widths of the runs are said once more, so that a loop can have them as constants.
     fn fetch(&self, big: bool, wideoffsets: bool, widebytecounts: bool, i: usize) -> Place
-        requires { (big ≡ self.now.big) × (wideoffsets ≡ self.now.wideoffsets) × (widebytecounts ≡ self.now.widebytecounts) × (i < self.now.many) }
+        requires { (big ≡ self.now.big) × (wideoffsets ≡ self.now.offsets.wide) × (widebytecounts ≡ self.now.bytecounts.wide) × (i < self.now.many) }
         ensures { Fetched self.now (record { at = i; place = result }) }
     {
         Place {
-            start: order::element(self.offsets, big, wideoffsets, i),
-            len: order::element(self.bytecounts, big, widebytecounts, i),
+            start: order::element(self.offsets.bytes, big, wideoffsets, i),
+            len: order::element(self.bytecounts.bytes, big, widebytecounts, i),
         }
     }
 
@@ -78,7 +84,7 @@ impl<'a> Places<'a> {
                 span: Span::NONE,
             };
         }
-        let place = self.fetch(self.big, self.wideoffsets, self.widebytecounts, 0);
+        let place = self.fetch(self.big, self.offsets.wide, self.bytecounts.wide, 0);
         Reach {
             stop: Some(Stop { at: 0, place }),
             span: Span::of(place),
@@ -94,7 +100,7 @@ impl<'a> Places<'a> {
         const WIDEBYTECOUNTS: bool,
         const SPANNED: bool,
     >(&self, from: usize, gap: Gap, span: Span) -> Reach
-        requires { (BIG ≡ self.now.big) × (WIDEOFFSETS ≡ self.now.wideoffsets) × (WIDEBYTECOUNTS ≡ self.now.widebytecounts) × (from ≤ self.now.many) × (gap.lo ≤ gap.hi) }
+        requires { (BIG ≡ self.now.big) × (WIDEOFFSETS ≡ self.now.offsets.wide) × (WIDEBYTECOUNTS ≡ self.now.bytecounts.wide) }
         ensures { Reached self.now SPANNED from gap span result }
     {
         let mut span = span;
@@ -113,12 +119,12 @@ impl<'a> Places<'a> {
         Reach { stop: None, span }
     }
 
-    // The same, with a loop of its own for each pair of widths in each byte order, so that no turn asks what they are.
+    // The same, with a loop of its own for each pair of widths in each byte order, so that no turn asks what they are: 12 instructions a strip, and 13 to 14 where
+    // the compiler was left to find these loops itself.
     pub(crate) fn skip<const SPANNED: bool>(&self, from: usize, gap: Gap, span: Span) -> Reach
-        requires { (from ≤ self.now.many) × (gap.lo ≤ gap.hi) }
         ensures { Reached self.now SPANNED from gap span result }
     {
-        match (self.big, self.wideoffsets, self.widebytecounts) {
+        match (self.big, self.offsets.wide, self.bytecounts.wide) {
             (true, true, true) => self.search::<true, true, true, SPANNED>(from, gap, span),
             (true, true, false) => self.search::<true, true, false, SPANNED>(from, gap, span),
             (true, false, true) => self.search::<true, false, true, SPANNED>(from, gap, span),
@@ -132,7 +138,6 @@ impl<'a> Places<'a> {
 
     // The same, where the code does not say whether a span is asked for.
     pub(crate) fn skip_on(&self, spanned: bool, from: usize, gap: Gap, span: Span) -> Reach
-        requires { (from ≤ self.now.many) × (gap.lo ≤ gap.hi) }
         ensures { Reached self.now spanned from gap span result }
     {
         if spanned {

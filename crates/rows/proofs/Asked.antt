@@ -18,10 +18,10 @@ use Rattle.outcomes.proofs.Ruled.{kept-ruled}
 use Rattle.tags.specs.Index
 use Rattle.tags.specs.Slots.{tag_at, line_at}
 use Rattle.keys.specs.Pass.{runs}
-use Rattle.keys.specs.Rows.{RowAsked}
+use Rattle.keys.specs.Rows.{RowAsked, starts_in}
 use Rattle.keys.proofs.Rows.{row-asks}
 use Rattle.keys.proofs.Turn.{entry-any}
-use Rattle.image.specs.Imaging.{tag_part}
+use Rattle.image.specs.Imaging.{tag_part, image_in}
 use Rattle.judge.specs.Examining.{examined_in, examined_of}
 use Rattle.paper.proofs.Keeps.{rule15-kept, rule17-kept}
 use Rattle.image.proofs.Seen.{Stands}
@@ -31,14 +31,14 @@ use Rattle.rows.specs.declared.Plan.{Plan}
 
 -- the key directory's part of the file, and where the three runs start, by a plan
 abbrev pub part_of : List ℕ → Plan → List ℕ
-part_of f p = run f p.start p.len
+part_of f p = run f p.starts.directory p.len
 
 abbrev pub starts_by : Plan → Starts
-starts_by p = record { directory = p.start; doubles = p.doubles; characters = p.characters }
+starts_by p = starts_in p.starts
 
 -- what is asked for row i, and what it is
 pub record Asked (f : List ℕ) (p : Plan) (i : ℕ) : Type 0 where
-  pub within : p.start + p.len ≤ length f
+  pub within : p.starts.directory + p.len ≤ length f
   pub asks : RowAsked p.big (part_of f p) (starts_by p) i
   pub row : row_of (starts_by p) i (key_at (runs p.big (part_of f p) [] []) i) ≡ row_at (view f) i
 
@@ -69,8 +69,8 @@ module _ (f : List ℕ) (zero : (verdict_of f).number ≡ 0) where
       let l = run-length-in f (find t (view f).held).entry.start (find t (view f).held).entry.len s.within in
       omega (arith, size f zero, s.within, l)
 
-  in-view : (i : ℕ) → i < key_count (runs_of (view f)) → Asked f (plan_by (examined_in (view f))) i
-  unfolding examined_in tag_part starts_of row_at
+  in-view : (i : ℕ) → i < key_count (runs_of (view f)) → Asked f (plan_by (examined_in f)) i
+  unfolding examined_in image_in tag_part starts_of row_at
   in-view i h =
       let a =
       row-asks (view f).head.big (Part Tag.key_directory) (Part Tag.doubles) (Part Tag.characters) (starts_of (view f)) i
@@ -86,9 +86,9 @@ module _ (f : List ℕ) (zero : (verdict_of f).number ≡ 0) where
       }
 
   -- the plan of an accepted file
-  plan-is : plan_of f ≡ plan_by (examined_in (view f))
+  plan-is : plan_of f ≡ plan_by (examined_in f)
   unfolding plan_of examined_of
-  plan-is = ap plan_told (kept-ruled (verdict_of f) (examined_in (view f)) zero)
+  plan-is = ap plan_told (kept-ruled (verdict_of f) (examined_in f) zero)
 
 -- all of it holds for a row that can be made
 pub asked : (f : List ℕ) (p : Plan) (i : ℕ) → Asks f p i → Asked f p i

@@ -15,17 +15,16 @@ use Rattle.rows.specs.declared.Lent.{Lent}
 abbrev pub plan_by : Examined → Plan
 plan_by e =
     record {
-      big = e.big;
-      start = e.directory.start;
-      len = e.directory.len;
-      doubles = e.doubles.start;
-      characters = e.characters.start;
+      big = e.image.big;
+      len = e.image.directory.len;
+      starts =
+          record { directory = e.image.directory.start; doubles = e.image.doubles.start; characters = e.image.characters.start };
     }
 
 -- all of them are 0 where a rule of the file refuses
 abbrev pub plan_told : Result Examined Verdict → Plan
 plan_told (Ok e) = plan_by e
-plan_told (Err v) = record { big = false; start = 0; len = 0; doubles = 0; characters = 0 }
+plan_told (Err v) = record { big = false; len = 0; starts = record { directory = 0; doubles = 0; characters = 0 } }
 
 unfoldable pub plan_of : List ℕ → Plan
 plan_of f = plan_told (examined_of f)

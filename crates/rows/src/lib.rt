@@ -7,16 +7,14 @@ ghost use Rattle.paper.specs.Calls.{row_at, rows_of, left_rows};
 ghost use Rattle.rows.specs.Planning.{planned_of, Asks, Fits, written, lent_of};
 
 use keys::Starts;
-use paper::{Counted, Row, Verdict};
+use paper::{Counted, Part, Row, Verdict};
 
-// All that a row is made of: the byte order, where the key directory stands, and where the doubles and the characters start.
+// All that a row is made of: the byte order, how long the key directory is, and where it, the doubles and the characters start.
 #[derive(Clone, Copy)]
 pub struct Plan {
     pub big: bool,
-    pub start: usize,
     pub len: usize,
-    pub doubles: usize,
-    pub characters: usize,
+    pub starts: Starts,
 }
 
 // Verdict and K for so many lent rows, with the plan of the rows.
@@ -44,20 +42,25 @@ pub fn count(file: &[u8], lent: usize) -> Planned
                 counted: Counted { verdict, keys: 0 },
                 plan: Plan {
                     big: false,
-                    start: 0,
                     len: 0,
-                    doubles: 0,
-                    characters: 0,
+                    starts: Starts {
+                        directory: 0,
+                        doubles: 0,
+                        characters: 0,
+                    },
                 },
             };
         }
     };
+    let directory = e.image.directory;
     let plan = Plan {
-        big: e.big,
-        start: e.directory.start,
-        len: e.directory.len,
-        doubles: e.doubles.start,
-        characters: e.characters.start,
+        big: e.image.big,
+        len: directory.len,
+        starts: Starts {
+            directory: directory.start,
+            doubles: e.image.doubles.start,
+            characters: e.image.characters.start,
+        },
     };
     let k = e.surveyed.keys;
     if lent < k as usize {
@@ -72,10 +75,7 @@ pub fn count(file: &[u8], lent: usize) -> Planned
             plan,
         };
     }
-    let verdict = Verdict {
-        number: 0,
-        place: 0,
-    };
+    let verdict = outcomes::ACCEPTED;
     Planned {
         counted: Counted { verdict, keys: k },
         plan,
@@ -87,13 +87,11 @@ fn row_of(file: &[u8], plan: Plan, i: usize) -> Row
     requires { Asks file.now plan i }
     ensures { result ≡ row_at (view file.now) i }
 {
-    let directory = layout::value(file, plan.start, plan.len);
-    let starts = Starts {
-        directory: plan.start,
-        doubles: plan.doubles,
-        characters: plan.characters,
+    let part = Part {
+        start: plan.starts.directory,
+        len: plan.len,
     };
-    keys::row(plan.big, directory, starts, i)
+    keys::row(plan.big, layout::value(file, part), plan.starts, i)
 }
 
 // The first k rows are written, the others stay as they are.

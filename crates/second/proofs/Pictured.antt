@@ -1,17 +1,15 @@
 -- Both pictures, for rules 13 and 14 of the mask: what the entries of each directory say of its pieces, and what is known of the image, whose entries are
 -- gathered anew. Assumes nothing.
-use Prim.Native.Nat.{ℕ, ◌*◌, ◌+◌, ◌≤◌, ◌<◌}
+use Prim.Native.Nat.{ℕ, ◌+◌, ◌≤◌, ◌<◌}
 use mathlib.Core.Path.{◌≡◌, refl, sym, ap, ◌∙◌, subst}
-use mathlib.Core.Bool.{Bool, true, false}
+use mathlib.Core.Bool.{Bool}
 use mathlib.Core.List.{List}
 use native.Mathlib.Omega.{arith}
-use lib.Dec.{eqb}
 use lib.ListN.{length}
-use Rattle.order.specs.Width.{width}
 use Rattle.paper.specs.Bytes.{run, num}
-use Rattle.paper.specs.Layout.{dir_len, entries, size_of, rule6}
-use Rattle.paper.specs.Tags.{Line, table, mask_table, image_values, find, tiled, offsets_tag, byte_counts_tag, piece_count, rule10}
-use Rattle.paper.specs.Pieces.{pieces, places_of, rule13, rule14}
+use Rattle.paper.specs.Layout.{dir_len, entries, rule6}
+use Rattle.paper.specs.Tags.{table, mask_table, image_values, tiled, offsets_tag, byte_counts_tag, piece_count, rule10}
+use Rattle.paper.specs.Pieces.{rule13, rule14}
 use Rattle.paper.specs.Judge.{View, head_in, count_in, count_run, view, pieces_of, full_of, table_rules, mask_view}
 use Rattle.paper.specs.declared.Entry.{Entry}
 use Rattle.paper.specs.declared.Outcome.{Outcome}
@@ -19,7 +17,7 @@ use Rattle.paper.specs.declared.Outcome.TheVariants.{Kept as kept}
 use Rattle.paper.proofs.Laws.{run-length-in}
 use Rattle.paper.proofs.Bounds.{table-named}
 use Rattle.layout.specs.Columns.{firsts}
-use Rattle.layout.specs.Opening.{scanned_of, further_by}
+use Rattle.layout.specs.Opening.{scanned_of, scanned_at, further_by}
 use Rattle.layout.specs.declared.Directory.{Directory}
 use Rattle.layout.specs.declared.Further.{Further}
 use Rattle.layout.specs.declared.Scanned.{Scanned}
@@ -32,67 +30,24 @@ use Rattle.tags.proofs.Accepted.{PieceColumn, Accepted, accepted}
 use Rattle.paper.specs.Outcome.{first}
 use Rattle.pieces.specs.Spans.{span_of}
 use Rattle.image.proofs.Seen as Seen
-use Rattle.crossing.specs.Pictures.{Standing, pictures_of}
+use Rattle.image.specs.Naming.{Named}
+use Rattle.image.specs.declared.Image.{Image}
+use Rattle.image.specs.declared.Next.{Next}
+use Rattle.image.proofs.Naming.{named}
+use Rattle.crossing.specs.Pictures.{pictures_of}
 use Rattle.mask.proofs.Masked.{masked}
 use Rattle.second.specs.Before.{Before, Third, crossed}
-use Rattle.second.specs.declared.Known.{Known}
 use Rattle.second.proofs.Staged.{image-zero}
-
--- ---- a picture, by any table
-
--- the entries o and e name the pieces that the directory shows
-pub record Naming (tb : List Line) (f : List ℕ) (big : Bool) (at c : ℕ) (o e : Entry) : Type 0 where
-  pub standing : Standing f o e
-  pub places : places_of big (width (eqb o.typ 4)) (run f o.start o.len) (width (eqb e.typ 4)) (run f e.start e.len) o.count ≡ pieces_of (view_of tb f big at c)
-
-module _ (tb : List Line) {f : List ℕ} (big : Bool) (at c : ℕ) {found : List Entry} (small : length f ≤ 4294967295) {a b : ℕ}
-    (o : PieceColumn f (held_at tb f big at c) found (piece_count big (held_at tb f big at c)) (offsets_tag (held_at tb f big at c)) a)
-    (s : PieceColumn f (held_at tb f big at c) found (piece_count big (held_at tb f big at c)) (byte_counts_tag (held_at tb f big at c)) b) where
-  places-are : places_of big (width (eqb (at_slot found a).typ 4)) (run f (at_slot found a).start (at_slot found a).len)
-      (width (eqb (at_slot found b).typ 4)) (run f (at_slot found b).start (at_slot found b).len) (at_slot found a).count
-      ≡ pieces_of (view_of tb f big at c)
-  unfolding pieces_of pieces view_of
-  places-are =
-      let h = held_at tb f big at c in
-      let x : width (eqb (at_slot found a).typ 4) ≡ size_of (find (offsets_tag h) h).entry.typ = sym o.wide ∙ ap (λ (e : Entry). size_of e.typ) (sym o.slot.entry) in
-      let y : width (eqb (at_slot found b).typ 4) ≡ size_of (find (byte_counts_tag h) h).entry.typ = sym s.wide ∙ ap (λ (e : Entry). size_of e.typ) (sym s.slot.entry) in
-      λ i. places_of big (x i) (sym o.slot.bytes i) (y i) (sym s.slot.bytes i) (sym o.slot.entry i).count
-
-  offsets_room : width (eqb (at_slot found a).typ 4) * (at_slot found a).count ≤ (at_slot found a).len
-  offsets_room = omega (arith, o.room, run-length-in f (at_slot found a).start (at_slot found a).len o.slot.within)
-
-  byte_counts_room : width (eqb (at_slot found b).typ 4) * (at_slot found a).count ≤ (at_slot found b).len
-  byte_counts_room =
-      subst (λ (k : ℕ). width (eqb (at_slot found b).typ 4) * k ≤ (at_slot found b).len) (s.count ∙ sym o.count)
-      (omega (arith, s.room, run-length-in f (at_slot found b).start (at_slot found b).len s.slot.within))
-
-  few : (w : Bool) → width w * (at_slot found a).count ≤ (at_slot found a).len → (at_slot found a).count < 4294967296
-  few true r = omega (arith, r, o.slot.within, small)
-  few false r = omega (arith, r, o.slot.within, small)
-
-  pub named : Naming tb f big at c (at_slot found a) (at_slot found b)
-  named =
-      record {
-        standing =
-            record {
-              offsets = o.slot.within;
-              byte_counts = s.slot.within;
-              few = few (eqb (at_slot found a).typ 4) offsets_room;
-              offsets_room = offsets_room;
-              byte_counts_room = byte_counts_room;
-            };
-        places = places-are;
-      }
 
 -- ---- the mask
 
-module _ {f : List ℕ} {i : Known} {d : Directory} {t : Bool} {found : List Entry} (p : Third f i d t found) where
+module _ {f : List ℕ} {i : Image} {n : Next} {d : Directory} {t : Bool} {found : List Entry} (p : Third f i n d t found) where
   pub mask-named : {a b : ℕ} → a ≡ slot_of_offsets t → b ≡ slot_of_byte_counts t
-      → Naming (mask_table i.width i.length) f d.big d.at d.count (at_slot found a) (at_slot found b)
+      → Named (mask_table i.size.width i.size.length) f d.big d.at d.count (at_slot found a) (at_slot found b)
   mask-named {a} {b} is-a is_b =
-      let k = masked i.width i.length f d.big d.at d.count found p.known.ready p.tagged in
-      let h = held_at (mask_table i.width i.length) f d.big d.at d.count in
-      named (mask_table i.width i.length) d.big d.at d.count p.known.ready.size
+      let k = masked i.size.width i.size.length f d.big d.at d.count found p.known.ready p.tagged in
+      let h = held_at (mask_table i.size.width i.size.length) f d.big d.at d.count in
+      named (mask_table i.size.width i.size.length) d.big d.at d.count p.known.ready.size
       (subst (PieceColumn f h found (piece_count d.big h) (offsets_tag h)) (sym is-a) k.offsets)
       (subst (PieceColumn f h found (piece_count d.big h) (byte_counts_tag h)) (sym is_b) k.byte_counts)
 
@@ -100,8 +55,6 @@ module _ {f : List ℕ} {i : Known} {d : Directory} {t : Bool} {found : List Ent
 
 -- its directory, whatever its entries are found by
 record Own (f : List ℕ) (big : Bool) (at c : ℕ) : Type 0 where
-  pub low : 8 ≤ at
-  pub some : 0 < c
   pub few : c ≤ 1024
   pub whole : at + dir_len c ≤ length f
   pub ready_with : {found : List Entry} → found ≡ firsts (line_tags table) (entries_at f big at c) → Ready table f big at c found
@@ -110,26 +63,24 @@ record Own (f : List ℕ) (big : Bool) (at c : ℕ) : Type 0 where
   pub zero : (first (table_rules (view_of table f big at c))).number ≡ 0
 
 -- what the rules over both pictures ask of it, where slots a and b are those of its pieces
-pub record Shown (f : List ℕ) (i : Known) (c a b : ℕ) (found : List Entry) (r : Further) : Type 0 where
+pub record Shown (f : List ℕ) (i : Image) (n : Next) (c a b : ℕ) (found : List Entry) (r : Further) : Type 0 where
   pub ready : Ready table f i.big i.at c found
   pub behind : Behind f i.big i.at c r
   pub ten : rule10 table (held_at table f i.big i.at c) ≡ kept
-  pub named : Naming table f i.big i.at c (at_slot found a) (at_slot found b)
+  pub named : Named table f i.big i.at c (at_slot found a) (at_slot found b)
   pub thirteen : rule13 (length f) (pieces_of (view_of table f i.big i.at c)) ≡ kept
   pub fourteen : rule14 (full_of (view_of table f i.big i.at c)) (pieces_of (view_of table f i.big i.at c)) ≡ kept
-  pub span_is : i.span ≡ span_of (pieces_of (view_of table f i.big i.at c))
+  pub span_is : n.span ≡ span_of (pieces_of (view_of table f i.big i.at c))
 
-module _ {f : List ℕ} {i : Known} (b : Before f i) where
+module _ {f : List ℕ} {i : Image} {n : Next} (b : Before f i n) where
   abbrev Small : length f ≤ 4294967295
   Small = Seen.file-size f (image-zero b)
 
   own-there : Own f (head_in f).big (head_in f).at (count_in f (head_in f))
   own-there =
-      let z = image-zero b in
+      let z = (image-zero b) in
       let r = Seen.ready_with f z refl in
       record {
-        low = r.low;
-        some = r.some;
         few = r.few;
         whole = r.whole;
         ready_with = λ k. Seen.ready_with f z k;
@@ -155,52 +106,44 @@ module _ {f : List ℕ} {i : Known} (b : Before f i) where
         subst (λ (x : Bool). Own f x i.at c) (sym b.big_is)
         (subst (λ (x : ℕ). Own f (head_in f).big x c) (sym b.at_is) (subst (λ (x : ℕ). Own f (head_in f).big (head_in f).at x) (sym count-is) own-there))
 
-    pub part-asked : i.at + (2 + 12 * c + 4) ≤ length f
-    part-asked = let k = own.whole in omega arith
+    -- what is asked for its entries
+    pub entries-asked : (i.at + dir_len c ≤ length f) × (c ≤ 1024) × (i.at < 4294967296)
+    entries-asked = (own.whole, own.few, omega (arith, own.whole, Small))
 
-    pub at_low : i.at < 4294967296
-    at_low = let k = own.whole in omega (arith, Small)
+    -- what the pass over it answered
+    module _ {s : Scanned} (so : s ≡ scanned_at (length f) (record { big = i.big; at = i.at; count = c }) (run f i.at (dir_len c))) where
+      behind : Behind f i.big i.at c s.further
+      unfolding scanned_of entries_at
+      behind =
+          record {
+            six = own.six;
+            is = ap (λ (x : Scanned). x.further) so ∙ ap (λ (x : Outcome). further_by x i.at (entries i.big i.at c (run f i.at (dir_len c)))) own.six;
+          }
 
-    module _ {dir : List ℕ} (is-dir : dir ≡ run f i.at (2 + 12 * c + 4)) where
-      pub entries-asked : (dir_len c ≤ length dir) × (0 < c) × (c ≤ 1024) × (i.at + dir_len c ≤ length f) × (length f ≤ 4294967295)
-      entries-asked =
-          let m = ap length is-dir ∙ run-length-in f i.at (dir_len c) own.whole in
-          (omega arith, own.some, own.few, own.whole, Small)
-
-      module _ {s : Scanned} (so : s ≡ scanned_of (record { size = length f; big = i.big; at = i.at }) c dir) {ts : List ℕ} {found : List Entry} (is-ts : ts ≡ line_tags table)
-          (found_are : found ≡ firsts ts (entries i.big i.at c dir)) {t : Bool} (is-t : t ≡ some_at tile_slots found) where
-        behind : Behind f i.big i.at c s.further
-        unfolding scanned_of entries_at
-        behind =
-            record {
-              six = own.six;
-              is =
-                  ap (λ (x : Scanned). x.further) (so ∙ ap (scanned_of (record { size = length f; big = i.big; at = i.at }) c) is-dir)
-                  ∙ ap (λ (x : Outcome). further_by x i.at (entries i.big i.at c (run f i.at (dir_len c)))) own.six;
-            }
-
+      module _ {ts : List ℕ} {found : List Entry} (is-ts : ts ≡ line_tags table) (found_are : found ≡ firsts ts (entries i.big i.at c (run f i.at (dir_len c))))
+          {t : Bool} (is-t : t ≡ some_at tile_slots found) where
         ready : Ready table f i.big i.at c found
         unfolding entries_at
-        ready = own.ready_with (found_are ∙ (λ j. firsts (is-ts j) (entries i.big i.at c (is-dir j))))
+        ready = own.ready_with (found_are ∙ (λ j. firsts (is-ts j) (entries i.big i.at c (run f i.at (dir_len c)))))
 
-        told : Accepted f i.big i.at c found
-        told = accepted f i.big i.at c found ready own.zero
+        known : Accepted f i.big i.at c found
+        known = accepted f i.big i.at c found ready own.zero
 
         tiled_is : t ≡ tiled (held_at table f i.big i.at c)
         unfolding table
         tiled_is = is-t ∙ tiles-are image_values table-named ready
 
-        pub image-shown : {x y : ℕ} → x ≡ slot_of_offsets t → y ≡ slot_of_byte_counts t → Shown f i c x y found s.further
+        pub image-shown : {x y : ℕ} → x ≡ slot_of_offsets t → y ≡ slot_of_byte_counts t → Shown f i n c x y found s.further
         image-shown {x} {y} is_x is_y =
             let h = held_at table f i.big i.at c in
             let q = ap pieces_of own.view_is in
             record {
               ready = ready;
               behind = behind;
-              ten = told.ten;
+              ten = known.ten;
               named = named table i.big i.at c Small
-                  (subst (PieceColumn f h found (piece_count i.big h) (offsets_tag h)) (sym (is_x ∙ ap slot_of_offsets tiled_is)) told.offsets)
-                  (subst (PieceColumn f h found (piece_count i.big h) (byte_counts_tag h)) (sym (is_y ∙ ap slot_of_byte_counts tiled_is)) told.byte_counts);
+                  (subst (PieceColumn f h found (piece_count i.big h) (offsets_tag h)) (sym (is_x ∙ ap slot_of_offsets tiled_is)) known.offsets)
+                  (subst (PieceColumn f h found (piece_count i.big h) (byte_counts_tag h)) (sym (is_y ∙ ap slot_of_byte_counts tiled_is)) known.byte_counts);
               thirteen = ap (rule13 (length f)) (sym q) ∙ Seen.thirteen-kept f (image-zero b);
               fourteen = (λ j. rule14 (full_of (sym own.view_is j)) (pieces_of (sym own.view_is j))) ∙ Seen.fourteen-kept f (image-zero b);
               span_is = b.span_is ∙ ap span_of q;

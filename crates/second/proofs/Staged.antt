@@ -1,7 +1,7 @@
 -- A mask stage by stage: where one refuses, its number is that of the mask's verdict; where none does, the entries that were gathered are ready for the rules of its table,
 -- and then for those of its picture. Assumes nothing.
 use Rattle.std.specs.Prelude.{Ok, Err}
-use Prim.Native.Nat.{ℕ, ◌*◌, ◌+◌, ◌≤◌, ◌<◌}
+use Prim.Native.Nat.{ℕ, ◌+◌, ◌≤◌, ◌<◌}
 use mathlib.Core.Path.{◌≡◌, refl, sym, ap, ◌∙◌, subst}
 use mathlib.Core.Bool.{Bool}
 use mathlib.Core.List.{List}
@@ -14,38 +14,39 @@ use Rattle.paper.specs.Tests.{all}
 use Rattle.paper.specs.Outcome.{first, ◌▷◌, verdict}
 use Rattle.paper.specs.Layout.{dir_len, entries, next_offset, rule8}
 use Rattle.paper.specs.Tag
-use Rattle.paper.specs.Tags.{mask_table, value_of}
+use Rattle.paper.specs.Tags.{Held, table, mask_table, value_of}
 use Rattle.paper.specs.Judge.{Head, View, head_in, next_in, count_in, entries_in, dir_run, view, view_at, entry_rules, next_rules, table_rules}
-use Rattle.paper.specs.Judge.{offset_stage, count_stage, entry_stage, directory_stage, next_stage, file_stage, image_stage, survey_stage}
+use Rattle.paper.specs.Judge.{offset_stage, count_stage, entry_stage, directory_stage, next_stage, image_stage, survey_stage, file_stage}
 use Rattle.paper.specs.Judge.{mask_head, mask_lines, mask_view, mask_picture_rules, mask_verdict, both_parts, both_pieces}
 use Rattle.paper.specs.declared.Entry.{Entry}
 use Rattle.paper.specs.declared.Verdict.{Verdict}
-use Rattle.paper.proofs.Laws.{run-length-in}
 use Rattle.paper.proofs.First.{kept-first, first-append, chain-zero, chain-stop, chain-turn, chain-both}
 use Rattle.layout.specs.Columns.{firsts}
-use Rattle.layout.specs.Opening.{opened_of, scanned_of}
+use Rattle.layout.specs.Opening.{opened_of, scanned_of, scanned_at}
 use Rattle.layout.specs.declared.Directory.{Directory}
 use Rattle.layout.specs.declared.Scanned.{Scanned}
 use Rattle.layout.proofs.Opening.{Laying, laid, laid-place}
 use Rattle.lines.specs.Lined.{line_tags}
 use Rattle.lines.specs.Ready.{entries_at, held_at, Ready}
 use Rattle.tags.specs.Tagging.{view_of}
+use Rattle.image.specs.declared.Image.{Image}
+use Rattle.image.specs.declared.Next.{Next}
 use Rattle.image.proofs.Seen.{file-size, known, held-is}
 use Rattle.mask.specs.Masking.{numbered, tagged_of}
 use Rattle.mask.proofs.Numbered.{refused, first-refuses, first-kept}
-use Rattle.outcomes.proofs.Ruled.{broken-ruled}
+use Rattle.outcomes.specs.Ruled.{ruled}
+use Rattle.outcomes.proofs.Ruled.{found-ruled, broken-ruled}
 use Rattle.second.specs.Before.{Before, Second, Found, crossed}
-use Rattle.second.specs.declared.Known.{Known}
 
-module _ {f : List ℕ} {i : Known} (b : Before f i) where
+module _ {f : List ℕ} {i : Image} {n : Next} (b : Before f i n) where
   abbrev Place : Head
-  Place = record { size = length f; big = i.big; at = i.next }
+  Place = record { size = length f; big = i.big; at = n.offset }
 
-  head-is : mask_head f ≡ record { size = length f; big = i.big; at = i.next }
+  head-is : mask_head f ≡ record { size = length f; big = i.big; at = n.offset }
   unfolding mask_head
   head-is = λ j. record { size = length f; big = sym b.big_is j; at = sym b.next_is j }
 
-  lines_are : mask_lines f ≡ mask_table i.width i.length
+  lines_are : mask_lines f ≡ mask_table i.size.width i.size.length
   unfolding mask_lines
   lines_are = λ j. mask_table (sym b.width_is j) (sym b.length_is j)
 
@@ -62,7 +63,7 @@ module _ {f : List ℕ} {i : Known} (b : Before f i) where
   staged e = ap (λ (h : Head). directory_stage f h ▷ (next_stage f h ▷ first (mask_picture_rules f))) e
 
   -- rules 4 and 5 refuse
-  pub open-bad : (e : Verdict) → Err e ≡ opened_of f (record { size = length f; big = i.big; at = i.next }) → Err e.number ≡ numbered (mask_verdict f) (tt {0})
+  pub open-bad : (e : Verdict) → Err e ≡ opened_of f (record { size = length f; big = i.big; at = n.offset }) → Err e.number ≡ numbered (mask_verdict f) (tt {0})
   unfolding directory_stage opened_of
   open-bad e h =
       let x = offset_stage Place ▷ count_stage f Place in
@@ -74,14 +75,14 @@ module _ {f : List ℕ} {i : Known} (b : Before f i) where
       ∙ chain-stop x _ r.0 in
       ap (λ (v : Verdict). Err v.number) r.1 ∙ refused x (tt {0}) r.0 ∙ ap (λ (v : Verdict). numbered v (tt {0})) (sym whole)
 
-module _ {f : List ℕ} {i : Known} {d : Directory} (o : Second f i d) where
+module _ {f : List ℕ} {i : Image} {n : Next} {d : Directory} (o : Second f i n d) where
   abbrev Here : Head
   Here = record { size = length f; big = d.big; at = d.at }
 
   abbrev Bytes : List ℕ
   Bytes = run f d.at (dir_len d.count)
 
-  place-is : (d.big ≡ i.big) × (d.at ≡ i.next)
+  place-is : (d.big ≡ i.big) × (d.at ≡ n.offset)
   place-is = laid-place f _ d o.laid
 
   here-is : mask_head f ≡ record { size = length f; big = d.big; at = d.at }
@@ -90,18 +91,9 @@ module _ {f : List ℕ} {i : Known} {d : Directory} (o : Second f i d) where
   lay : Laying f (record { size = length f; big = d.big; at = d.at }) d.count
   lay = subst (λ (h : Head). Laying f h d.count) (sym (head-is o.before) ∙ here-is) (laid f _ d o.laid)
 
-  -- what the passes over the directory ask
-  pub part_asked : d.at + (2 + 12 * d.count + 4) ≤ length f
-  part_asked = let w = lay.whole in omega arith
-
-  pub entries-asked : {dir : List ℕ} → dir ≡ run f d.at (2 + 12 * d.count + 4)
-      → (dir_len d.count ≤ length dir) × (0 < d.count) × (d.count ≤ 1024) × (d.at + dir_len d.count ≤ length f) × (length f ≤ 4294967295)
-  entries-asked e =
-      let m = ap length e ∙ run-length-in f d.at (dir_len d.count) lay.whole in
-      (omega arith, lay.some, lay.few, lay.whole, size o.before)
-
-  pub at_low : d.at < 4294967296
-  at_low = let w = lay.whole in let s = size o.before in omega arith
+  -- what is asked for its entries
+  pub entries-asked : (d.at + dir_len d.count ≤ length f) × (d.count ≤ 1024) × (d.at < 4294967296)
+  entries-asked = (lay.whole, lay.few, omega (arith, lay.whole, size o.before))
 
   entries-are : entry_stage f Here ≡ first (entry_rules Here (entries d.big d.at d.count Bytes))
   unfolding entry_stage entries_in dir_run
@@ -112,32 +104,37 @@ module _ {f : List ℕ} {i : Known} {d : Directory} (o : Second f i d) where
   next_is = ap (λ (k : ℕ). next_offset d.big k (run f d.at (dir_len k))) (sym lay.count)
 
   -- what the pass over it answered
-  module _ {dir : List ℕ} (is : dir ≡ run f d.at (2 + 12 * d.count + 4)) {s : Scanned} (so : s ≡ scanned_of (record { size = length f; big = d.big; at = d.at }) d.count dir) where
-    so_far : s ≡ scanned_of (record { size = length f; big = d.big; at = d.at }) d.count (run f d.at (dir_len d.count))
-    so_far = so ∙ ap (scanned_of Here d.count) is
+  module _ {s : Scanned} (so : s ≡ scanned_at (length f) d (run f d.at (dir_len d.count))) where
+    abbrev Six_seven : Verdict
+    Six_seven = first (entry_rules Here (entries d.big d.at d.count Bytes))
 
-    verdict-is : s.verdict ≡ first (entry_rules Here (entries d.big d.at d.count Bytes))
+    judged-is : s.judged ≡ ruled Six_seven (tt {0})
     unfolding scanned_of
-    verdict-is = ap (λ (x : Scanned). x.verdict) so_far
+    judged-is = ap (λ (x : Scanned). x.judged) so
 
     next-found : s.next ≡ next_in f Here
     unfolding scanned_of
-    next-found = ap (λ (x : Scanned). x.next) so_far ∙ sym next_is
+    next-found = ap (λ (x : Scanned). x.next) so ∙ sym next_is
 
-    after-scan : mask_verdict f ≡ s.verdict ▷ (next_stage f Here ▷ first (mask_picture_rules f))
+    after-scan : mask_verdict f ≡ Six_seven ▷ (next_stage f Here ▷ first (mask_picture_rules f))
     unfolding directory_stage
     after-scan =
         staged o.before here-is
         ∙ ap (λ (x : Verdict). x ▷ (next_stage f Here ▷ first (mask_picture_rules f)))
-        (chain-zero (offset_stage Here) _ lay.offset_zero ∙ chain-zero (count_stage f Here) _ lay.count_zero ∙ entries-are ∙ sym verdict-is)
+        (chain-zero (offset_stage Here) _ lay.offset_zero ∙ chain-zero (count_stage f Here) _ lay.count_zero ∙ entries-are)
 
     -- rules 6 and 7 refuse
-    pub scan-bad : (s.verdict.number ≡ 0 → ⊥) → Err s.verdict.number ≡ numbered (mask_verdict f) (tt {0})
-    scan-bad n = refused s.verdict (tt {0}) n ∙ ap (λ (v : Verdict). numbered v (tt {0})) (sym (after-scan ∙ chain-stop s.verdict _ n))
+    pub scan-bad : (e : Verdict) → s.judged ≡ Err e → Err e.number ≡ numbered (mask_verdict f) (tt {0})
+    scan-bad e h =
+        let b = broken-ruled Six_seven (tt {0}) e (sym h ∙ judged-is) in
+        ap (λ (v : Verdict). Err v.number) b.1 ∙ refused Six_seven (tt {0}) b.0 ∙ ap (λ (v : Verdict). numbered v (tt {0})) (sym (after-scan ∙ chain-stop Six_seven _ b.0))
 
-    module _ (z : s.verdict.number ≡ 0) where
+    module _ {x : Unit {0}} (good : s.judged ≡ Ok x) where
+      rules-zero : Six_seven.number ≡ 0
+      rules-zero = (found-ruled Six_seven (tt {0}) x (sym good ∙ judged-is)).0
+
       after-seven : mask_verdict f ≡ next_stage f Here ▷ first (mask_picture_rules f)
-      after-seven = after-scan ∙ chain-zero s.verdict _ z
+      after-seven = after-scan ∙ chain-zero Six_seven _ rules-zero
 
       -- rule 8
       pub next-bad : (s.next ≡ 0 → ⊥) → Err 8 ≡ numbered (mask_verdict f) (tt {0})
@@ -147,11 +144,8 @@ module _ {f : List ℕ} {i : Known} {d : Directory} (o : Second f i d) where
           let v : mask_verdict f ≡ verdict 8 0 = after-seven ∙ rw e in
           ap (λ (x : Verdict). numbered x (tt {0})) (sym v)
 
-      rules-zero : (first (entry_rules Here (entries d.big d.at d.count Bytes))).number ≡ 0
-      rules-zero = ap (λ (v : Verdict). v.number) (sym verdict-is) ∙ z
-
-      pub ready_with : {ts : List ℕ} {found : List Entry} → ts ≡ line_tags (mask_table i.width i.length) → found ≡ firsts ts (entries d.big d.at d.count dir)
-          → Ready (mask_table i.width i.length) f d.big d.at d.count found
+      pub ready_with : {ts : List ℕ} {found : List Entry} → ts ≡ line_tags (mask_table i.size.width i.size.length) → found ≡ firsts ts (entries d.big d.at d.count (run f d.at (dir_len d.count)))
+          → Ready (mask_table i.size.width i.size.length) f d.big d.at d.count found
       unfolding entries_at entry_rules all
       ready_with e k =
           record {
@@ -160,12 +154,12 @@ module _ {f : List ℕ} {i : Known} {d : Directory} (o : Second f i d) where
             some = lay.some;
             few = lay.few;
             whole = lay.whole;
-            found_are = k ∙ (λ j. firsts (e j) (entries d.big d.at d.count (is j)));
+            found_are = k ∙ (λ j. firsts (e j) (entries d.big d.at d.count Bytes));
             seven = kept-first (entry_rules Here (entries d.big d.at d.count Bytes)) refl rules-zero 1;
           }
 
       module _ (none : s.next ≡ 0) where
-        view_is : mask_view f ≡ view_of (mask_table i.width i.length) f d.big d.at d.count
+        view_is : mask_view f ≡ view_of (mask_table i.size.width i.size.length) f d.big d.at d.count
         unfolding mask_view view_at view_of held_at entries_at entries_in dir_run
         view_is = (λ j. view_at (lines_are o.before j) f (here-is j)) ∙ rw (sym lay.count)
 
@@ -179,8 +173,8 @@ module _ {f : List ℕ} {i : Known} {d : Directory} (o : Second f i d) where
         unfolding mask_picture_rules table_rules crossed both_parts both_pieces all
         parted = after-eight ∙ first-append (table_rules (mask_view f)) _ refl
 
-        pub gathered : {ts : List ℕ} {found : List Entry} → ts ≡ line_tags (mask_table i.width i.length) → found ≡ firsts ts (entries d.big d.at d.count dir)
-            → Found f i d found
+        pub gathered : {ts : List ℕ} {found : List Entry} → ts ≡ line_tags (mask_table i.size.width i.size.length) → found ≡ firsts ts (entries d.big d.at d.count (run f d.at (dir_len d.count)))
+            → Found f i n d found
         unfolding entries_at entry_rules all
         gathered e k =
             record {
@@ -192,24 +186,28 @@ module _ {f : List ℕ} {i : Known} {d : Directory} (o : Second f i d) where
             }
 
 -- rules 27 and 9 to 12
-module _ {f : List ℕ} {i : Known} {d : Directory} {found : List Entry} (p : Found f i d found) where
-  parted-seen : mask_verdict f ≡ first (table_rules (view_of (mask_table i.width i.length) f d.big d.at d.count)) ▷ crossed f
+module _ {f : List ℕ} {i : Image} {n : Next} {d : Directory} {found : List Entry} (p : Found f i n d found) where
+  parted-seen : mask_verdict f ≡ first (table_rules (view_of (mask_table i.size.width i.size.length) f d.big d.at d.count)) ▷ crossed f
   parted-seen = p.left ∙ ap (λ (v : View). first (table_rules v) ▷ crossed f) p.view_is
 
-  pub tags-bad : (k : ℕ) → Err k ≡ tagged_of (view_of (mask_table i.width i.length) f d.big d.at d.count) → Err k ≡ numbered (mask_verdict f) (tt {0})
+  pub tags-bad : (k : ℕ) → Err k ≡ tagged_of (view_of (mask_table i.size.width i.size.length) f d.big d.at d.count) → Err k ≡ numbered (mask_verdict f) (tt {0})
   unfolding tagged_of
   tags-bad k h = first-refuses _ (crossed f) _ (tt {0}) k h ∙ ap (λ (v : Verdict). numbered v (tt {0})) (sym parted-seen)
 
-  pub tags-good : {t : Bool} → Ok t ≡ tagged_of (view_of (mask_table i.width i.length) f d.big d.at d.count) → numbered (crossed f) (tt {0}) ≡ numbered (mask_verdict f) (tt {0})
+  pub tags-good : {t : Bool} → Ok t ≡ tagged_of (view_of (mask_table i.size.width i.size.length) f d.big d.at d.count) → numbered (crossed f) (tt {0}) ≡ numbered (mask_verdict f) (tt {0})
   unfolding tagged_of
   tags-good {t} h = sym (ap (λ (v : Verdict). numbered v (tt {0})) parted-seen ∙ first-kept _ (crossed f) _ t (tt {0}) h)
 
 -- what the table asks of the image's size
-module _ {f : List ℕ} {i : Known} (b : Before f i) where
-  pub sides-low : (i.width ≤ 1000000) × (i.length ≤ 1000000)
+module _ {f : List ℕ} {i : Image} {n : Next} (b : Before f i n) where
+  -- the entries of the image's directory, with their values
+  abbrev Tags : List Held
+  Tags = held_at table f (head_in f).big (head_in f).at (count_in f (head_in f))
+
+  pub sides-low : (i.size.width ≤ 1000000) × (i.size.length ≤ 1000000)
   sides-low =
       let k = known f (image-zero b) in
       let h = held-is f (image-zero b) in
-      let x : i.width ≡ value_of (head_in f).big Tag.width (held_at _ f (head_in f).big (head_in f).at (count_in f (head_in f))) = b.width_is ∙ ap (value_of (head_in f).big Tag.width) h in
-      let y : i.length ≡ value_of (head_in f).big Tag.length (held_at _ f (head_in f).big (head_in f).at (count_in f (head_in f))) = b.length_is ∙ ap (value_of (head_in f).big Tag.length) h in
+      let x : i.size.width ≡ value_of (head_in f).big Tag.width Tags = b.width_is ∙ ap (value_of (head_in f).big Tag.width) h in
+      let y : i.size.length ≡ value_of (head_in f).big Tag.length Tags = b.length_is ∙ ap (value_of (head_in f).big Tag.length) h in
       (omega (arith, x, k.width_high), omega (arith, y, k.length_high))

@@ -2,13 +2,15 @@
 #![tactic(auto)]
 
 ghost use Rattle.std.specs.Prelude.{◌≡◌};
-ghost use Rattle.keys.specs.Pass.{runs};
+ghost use Rattle.keys.specs.Pass.{lent_in};
 ghost use Rattle.ground.specs.Answer.{Sized};
 ghost use Rattle.survey.specs.Surveying.{surveyed_of};
 
+use keys::Values;
 use paper::{Corners, Georeference, Verdict};
 
-// What is found where these rules are kept: the number of keys K, the minor revision of their header, and the place on the ground.
+// What is found where these rules are kept: the number of keys K, the minor revision of their header, and the place on the ground. It is flat, as the
+// definitions tell it: what the keys and the ground answer holds the raster type too, which is no part of what is found.
 #[derive(Clone, Copy)]
 pub struct Surveyed {
     pub keys: u32,
@@ -17,13 +19,12 @@ pub struct Surveyed {
     pub corners: Corners,
 }
 
-// Rules 15 to 22, over runs, their byte order and the size of the picture; the run of an absent tag is empty. Each run is another tag's: a struct of them
-// would be taken apart at once.
+// Rules 15 to 22, over runs, their byte order and the size of the picture; the run of an absent tag is empty. A struct of the runs of the ground would be taken apart
+// at once; width and length come apart, since the type that holds both is of `tags`, on which this crate does not stand.
+#[tactic(auto, unfolding(crate::specs::Surveying::surveyed_of, keys::specs::Pass::keys_judged, ground::specs::Answer::ground_judged, paper::specs::Outcome::first, paper::specs::Keys::key_rules, outcomes::specs::Ruled::ruled))]
 pub fn judge_survey(
     big: bool,
-    directory: &[u8],
-    doubles: &[u8],
-    characters: &[u8],
+    values: Values,
     scale: &[u8],
     tiepoint: &[u8],
     matrix: &[u8],
@@ -31,16 +32,14 @@ pub fn judge_survey(
     length: u32,
 ) -> Result<Surveyed, Verdict>
     requires { Sized scale.now tiepoint.now matrix.now }
-    ensures { result ≡ surveyed_of (runs big directory.now doubles.now characters.now) scale.now tiepoint.now matrix.now width length }
+    ensures { result ≡ surveyed_of (lent_in big values.entry) scale.now tiepoint.now matrix.now width length }
 {
-    let k = keys::judge_keys(big, directory, doubles, characters)?;
+    let k = keys::judge_keys(big, values)?;
     let g = ground::judge_ground(big, scale, tiepoint, matrix, width, length, k.point)?;
-    let georeference = g.georeference;
-    let corners = g.corners;
     Ok(Surveyed {
         keys: k.keys,
         minor: k.minor,
-        georeference,
-        corners,
+        georeference: g.georeference,
+        corners: g.corners,
     })
 }

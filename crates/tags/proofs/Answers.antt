@@ -1,55 +1,44 @@
 -- One law for each answer of rules 27 and 9 to 12. Assumes nothing.
 use Prim.Native.Nat.{ℕ, ◌*◌, ◌≤◌}
-use mathlib.Core.Path.{◌≡◌, sym, ap, ap₂, ◌∙◌}
-use mathlib.Core.Bool.{Bool, true, false, not, ◌&&◌, ◌||◌}
+use mathlib.Core.Path.{◌≡◌, refl, sym, ap, ap₂, ◌∙◌}
+use mathlib.Core.Bool.{Bool, true, false, not}
 use mathlib.Core.List.{List, [], ◌∷◌}
 use native.Mathlib.Omega.{arith}
 use lib.Dec.{lit<}
 use lib.ListN.{length}
 use Rattle.paper.specs.Bytes.{run}
-use Rattle.std.specs.Prelude.{Result, Ok, Err}
+use Rattle.std.specs.Prelude.{Ok, Err}
 use Rattle.paper.specs.declared.Verdict.{Verdict}
 use Rattle.paper.specs.declared.Entry.{Entry}
-use Rattle.paper.specs.Outcome.{breaks, first_of, first, or_else, verdict}
+use Rattle.paper.specs.Outcome.{breaks, first_of, first, verdict}
 use Rattle.outcomes.specs.Ruled.{ruled}
 use Rattle.outcomes.proofs.Ruled.{rule-refuses}
 use Rattle.paper.specs.Tests.{some}
 use Rattle.paper.specs.declared.Outcome.{Outcome}
-use Rattle.paper.specs.declared.Outcome.TheVariants.{Kept as kept, Broken as broken}
-use Rattle.paper.specs.Tags.{image_values, table, Held, tiled, fits_the_line, rule27, rule9, rule10, rule11, rule12}
+use Rattle.paper.specs.declared.Outcome.TheVariants.{Kept as kept}
+use Rattle.paper.specs.Tags.{image_values, table, Held, fits_the_line, rule27, rule9, rule10, rule11, rule12}
 use Rattle.paper.proofs.Laws.{run-length-in}
 use Rattle.paper.proofs.Bounds.{table-named}
 use Rattle.tags.specs.Index
 use Rattle.tags.specs.declared.Numbers.{Numbers}
 use Rattle.tags.specs.declared.Bits.{Bits}
-use Rattle.lines.specs.Rows.{nine_of, ten_of, some_misfit}
+use Rattle.lines.specs.Rows.{ten_of, some_misfit}
 use Rattle.lines.specs.Lined.{says, Lined}
 use Rattle.lines.specs.declared.Line.{Line as Row}
 use Rattle.lines.specs.Ready.{entries_at, held_at, at_slot, Ready, Behind}
-use Rattle.lines.proofs.Ruled.{nine-is, ten-is, later-misfits}
-use Rattle.tags.specs.Slots.{line_at, strip_slots, tile_slots, some_at, slot_of_offsets, slot_of_byte_counts}
-use Rattle.tags.specs.Numbers.{numbers_of, bits_of, bits_in, numbers_in, FourBytes, eleven_of, Countable, twelve_of}
+use Rattle.lines.proofs.Ruled.{ten-is, later-misfits}
+use Rattle.tags.specs.Slots.{line_at, slot_of_offsets, slot_of_byte_counts}
+use Rattle.tags.specs.Numbers.{numbers_of, bits_of, bits_in, numbers_in, eleven_of, Countable, is_tiled, twelve_of, twelve_in}
 use Rattle.paper.specs.Judge.{table_rules}
 use Rattle.paper.specs.Tag
 use Rattle.layout.specs.Repeats.{later_texts}
 use Rattle.layout.specs.declared.Further.{Further}
 use Rattle.layout.proofs.Repeats.{FurtherHolds, further-holds}
-use Rattle.tags.specs.Tagging.{view_of, picture_of, tagged_of, Fitting}
-use Rattle.tags.proofs.Slots.{tiles-are, mixed-is}
-use Rattle.tags.proofs.Rules.{eleven-is, twelve-is}
+use Rattle.tags.specs.Tagging.{families_of, view_of, picture_of, tagged_of, Fitting}
+use Rattle.tags.proofs.Families.{Alone, families-refuse, mixed-kept, nine-kept, ten-kept, families-fit}
+use Rattle.tags.proofs.Rules.{eleven-is, cut-tiled, twelve-is}
 use Rattle.tags.proofs.Fetched.{numbers-are, bits-same, count_at, offsets-same, byte-counts-same}
 use Rattle.tags.proofs.Kept.{in-range, eleven-gives}
-
--- what one rule by itself answers
-abbrev pub Alone : ℕ → Outcome → Result (Unit {0}) Verdict
-Alone k o = ruled (or_else k o (verdict 0 0)) (tt {0})
-
--- and where its first part is broken
-first-refused : {A : Type 0} (k : ℕ) (o : Outcome) (os : List Outcome) (w : Verdict) (a : A) {e : Verdict} → Err e ≡ Alone k o
-    → Err e ≡ ruled (or_else k (first_of (o ∷ os)) w) a
-unfolding first_of
-first-refused k kept os w a h = rule-refuses k kept (or_else k (first_of os) w) a _ h
-first-refused k (broken p) os w a h = rule-refuses k (broken p) w a _ h
 
 -- the further entries of 50909 lie in the file
 pub later-holds : {f : List ℕ} {big : Bool} {at c : ℕ} {found : List Entry} {g : Further} → Ready table f big at c found
@@ -65,67 +54,60 @@ later_lent {f} {g = g} r w e =
     let l = ap length e ∙ run-length-in f g.start (12 * g.many) h.room in
     (omega arith, h.few)
 
--- which families are present, whether that breaks rule 27, and then what rules 9 and 10 say
-module _ {f : List ℕ} {big : Bool} {at c : ℕ} {found : List Entry} (r : Ready table f big at c found)
-    {s t m : Bool} (is-s : s ≡ some_at strip_slots found) (is-t : t ≡ some_at tile_slots found) (is_m : m ≡ (s && t) || (not s && not t)) where
-  t_same : t ≡ tiled (held_at table f big at c)
-  unfolding table
-  t_same = is-t ∙ tiles-are image_values table-named r
+-- a rule with nothing in front of it
+alone : (m : Bool) (p : ℕ) → breaks m p ≡ first_of (kept ∷ breaks m p ∷ [])
+unfolding first_of
+alone true p = refl
+alone false p = refl
 
-  mixed-same : rule27 (held_at table f big at c) ≡ breaks m 0
-  unfolding table
-  mixed-same = mixed-is image_values table-named r is-s is-t is_m
+-- rules 27, 9 and 10 of the first entry of each tag refuse, or are kept and the entries of 50909 behind the first are tested
+module _ {f : List ℕ} {big : Bool} {at c : ℕ} {found : List Entry} (r : Ready table f big at c found) {g : Further} (w : Behind f big at c g)
+    {rows : List Row} (l : Lined rows table) where
+  pub refused-families : {e : Verdict} → Err e ≡ families_of rows found → Err e ≡ tagged_of (view_of table f big at c)
+  unfolding tagged_of table
+  refused-families h = families-refuse image_values table-named r l w.six _ h
 
-  pub refused-mixed : m ≡ true → Err (verdict 27 0) ≡ tagged_of (view_of table f big at c)
-  unfolding tagged_of view_of table_rules first ruled
-  refused-mixed h = rw (mixed-same, h)
+  module _ {t : Bool} (is : Ok t ≡ families_of rows found) {later : List ℕ} (is_later : later ≡ run f g.start (12 * g.many)) (x : Row)
+      (said : says x (line_at Index.metadata) ≡ true) {n : Bool} (is-n : n ≡ some_misfit x big later 0 g.many) where
+    -- the entries of 50909 behind the first
+    abbrev Misfit : Bool
+    Misfit = some (λ e. not (fits_the_line (line_at Index.metadata) e)) (later_texts (entries_at f big at c))
 
-  module _ (alike : m ≡ false) {rows : List Row} (l : Lined rows table) {o : Outcome} (is-o : o ≡ nine_of rows t found) where
-    mixed-kept : rule27 (held_at table f big at c) ≡ kept
-    mixed-kept = mixed-same ∙ ap (λ (b : Bool). breaks b 0) alike
+    misfit-same : n ≡ Misfit
+    unfolding entries_at
+    misfit-same =
+        is-n
+        ∙ ap (λ (s : List ℕ). some_misfit x big s 0 g.many) is_later
+        ∙ later-misfits x (line_at Index.metadata) said big g.start g.many (run f g.start (12 * g.many)) (later-holds r w).are
 
-    nine-same : o ≡ rule9 table (held_at table f big at c)
-    nine-same = is-o ∙ ap (λ (b : Bool). nine_of rows b found) t_same ∙ nine-is r l
+    ten-same : breaks n Tag.metadata ≡ rule10 table (held_at table f big at c)
+    unfolding line_at table first_of
+    ten-same =
+        let first : ten_of rows found ≡ kept = ten-kept image_values table-named r l is in
+        rw misfit-same (alone Misfit Tag.metadata ∙ ap (λ (o : Outcome). first_of (o ∷ breaks Misfit Tag.metadata ∷ [])) (sym first) ∙ ten-is r w.six l)
 
-    pub refused-nine : {e : Verdict} → Err e ≡ Alone 9 o → Err e ≡ tagged_of (view_of table f big at c)
-    unfolding tagged_of view_of table_rules first
-    refused-nine h = rw (mixed-kept, ← nine-same) (rule-refuses 9 o _ _ _ h)
+    mixed : rule27 (held_at table f big at c) ≡ kept
+    unfolding table
+    mixed = mixed-kept image_values table-named r l is
 
-    module _ (h : o ≡ kept) {u : Outcome} (is-u : u ≡ ten_of rows found) {g : Further} (w : Behind f big at c g) where
-      -- the entries of 50909 behind the first
-      abbrev Misfit : Bool
-      Misfit = some (λ e. not (fits_the_line (line_at Index.metadata) e)) (later_texts (entries_at f big at c))
+    nine : rule9 table (held_at table f big at c) ≡ kept
+    unfolding table
+    nine = nine-kept image_values table-named r l is
 
-      ten-same : first_of (u ∷ breaks Misfit Tag.metadata ∷ []) ≡ rule10 table (held_at table f big at c)
-      unfolding line_at table
-      ten-same = ap (λ (x : Outcome). first_of (x ∷ breaks Misfit Tag.metadata ∷ [])) is-u ∙ ten-is r w.six l
+    fits : rule10 table (held_at table f big at c) ≡ kept → Fitting table f big at c t found
+    unfolding table
+    fits ten = families-fit image_values table-named r l is ten
 
-      pub refused-ten : {e : Verdict} → Err e ≡ Alone 10 u → Err e ≡ tagged_of (view_of table f big at c)
-      unfolding tagged_of view_of table_rules first first_of
-      refused-ten k = rw (mixed-kept, ← nine-same, h, ← ten-same) (first-refused 10 u _ _ _ k)
+    pub refused-later : n ≡ true → Err (verdict 10 Tag.metadata) ≡ tagged_of (view_of table f big at c)
+    unfolding tagged_of view_of table_rules first ruled
+    refused-later b = rw (mixed, nine, ← ten-same, b)
 
-      module _ (k : u ≡ kept) {later : List ℕ} (is_later : later ≡ run f g.start (12 * g.many)) (x : Row) (said : says x (line_at Index.metadata) ≡ true)
-          {n : Bool} (is-n : n ≡ some_misfit x big later 0 g.many) where
-        misfit-same : n ≡ Misfit
-        unfolding entries_at
-        misfit-same =
-            is-n
-            ∙ ap (λ (s : List ℕ). some_misfit x big s 0 g.many) is_later
-            ∙ later-misfits x (line_at Index.metadata) said big g.start g.many (run f g.start (12 * g.many)) (later-holds r w).are
-
-        pub refused-later : n ≡ true → Err (verdict 10 Tag.metadata) ≡ tagged_of (view_of table f big at c)
-        unfolding tagged_of view_of table_rules first first_of ruled
-        refused-later b = rw (mixed-kept, ← nine-same, h, ← ten-same, k, ← misfit-same, b)
-
-        pub fitting : n ≡ false → Fitting table f big at c t found
-        unfolding first_of
-        fitting b =
-            let ten : rule10 table (held_at table f big at c) ≡ kept = sym ten-same ∙ rw (k, ← misfit-same, b) in
-            record { ready = r; tiled_is = t_same; twenty_seven = mixed-kept; nine = sym nine-same ∙ h; ten = ten }
+    pub fitting : n ≡ false → Fitting table f big at c t found
+    fitting b = fits (sym ten-same ∙ ap (λ (x : Bool). breaks x Tag.metadata) b)
 
 -- the numbers and the bits that were fetched, and what rule 11 says of them
 module _ {f : List ℕ} {big : Bool} {at c : ℕ} {t : Bool} {found : List Entry} (w : Fitting table f big at c t found)
-    {n : Numbers} (is-n : n ≡ numbers_in big f t found) (small : FourBytes n) {b : Bits}
+    {n : Numbers} (is-n : n ≡ numbers_in big f t found) {b : Bits}
     {part : List ℕ} (is-part : part ≡ run f (at_slot found Index.bits).start (at_slot found Index.bits).len) (is_b : b ≡ bits_in big (at_slot found Index.bits).count part)
     {o : Outcome} (is-o : o ≡ eleven_of n b.allowed) where
   abbrev Hs : List Held
@@ -155,28 +137,29 @@ module _ {f : List ℕ} {big : Bool} {at c : ℕ} {t : Bool} {found : List Entry
     countable =
         let a = eleven-gives image_values n b.allowed kept (sym is-o ∙ h) in
         record {
-          four_bytes = small;
           width = (in-range 1 1000000 n.width a.width).1;
           length = (in-range 1 1000000 n.length a.length).1;
-          rows = a.rows_low;
-          tilewidth = a.tilewidth_low;
-          tilelength = a.tilelength_low;
+          cut = a.cut;
         }
 
     -- with the counts of 258, of the offsets and of the byte counts
-    module _ {u : Outcome} (is-u : u ≡ twelve_of n b t (at_slot found Index.bits).count (at_slot found (slot_of_offsets t)).count (at_slot found (slot_of_byte_counts t)).count) where
+    module _ {u : Outcome} (is-u : u ≡ twelve_in n b found) where
       twelve-same : u ≡ rule12 big Hs
-      unfolding table
+      unfolding table numbers_of
       twelve-same =
           let bits = count_at image_values table-named w Index.bits (lit< tt) in
           let offsets = offsets-same image_values table-named w in
           let bytecounts = byte-counts-same image_values table-named w in
-          is-u ∙ (λ z. twelve_of (n-same z) (b-same z) (w.tiled_is z) (bits z) (offsets z) (bytecounts z)) ∙ twelve-is big Hs
+          let k : is_tiled n.cut ≡ t = ap (λ (m : Numbers). is_tiled m.cut) n-same ∙ cut-tiled big Hs ∙ sym w.tiled_is in
+          is-u
+          ∙ ap (λ (x : Bool). twelve_of n b (at_slot found Index.bits).count (at_slot found (slot_of_offsets x)).count (at_slot found (slot_of_byte_counts x)).count) k
+          ∙ (λ z. twelve_of (n-same z) (b-same z) (bits z) (offsets z) (bytecounts z))
+          ∙ twelve-is big Hs
 
       pub refused-twelve : {e : Verdict} → Err e ≡ Alone 12 u → Err e ≡ tagged_of (view_of table f big at c)
       unfolding tagged_of view_of table_rules first
       refused-twelve g = rw (w.twenty_seven, w.nine, w.ten, ← eleven-same, h, ← twelve-same) (rule-refuses 12 u _ _ _ g)
 
-      pub accepted : u ≡ kept → Ok (record { width = n.width; length = n.length; tiled = t }) ≡ tagged_of (view_of table f big at c)
+      pub accepted : u ≡ kept → Ok (record { size = record { width = n.width; length = n.length }; tiled = t }) ≡ tagged_of (view_of table f big at c)
       unfolding tagged_of picture_of view_of table_rules first ruled numbers_of
       accepted g = rw (w.twenty_seven, w.nine, w.ten, ← eleven-same, h, ← twelve-same, g, n-same, w.tiled_is)

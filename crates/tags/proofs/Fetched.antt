@@ -1,5 +1,6 @@
 -- The values as they stand in the file are those of the paper, where rules 9 and 10 are kept. Assumes nothing.
 use Prim.Native.Nat.{ℕ, ◌+◌, ◌*◌, ◌≤◌, ◌<◌}
+use Rattle.std.specs.Prelude.{Some, None}
 use mathlib.Core.Path.{◌≡◌, refl, sym, ap, ◌∙◌}
 use mathlib.Core.Bool.{Bool, true, false, cond, not, ◌||◌}
 use mathlib.Core.List.{List}
@@ -7,7 +8,6 @@ use native.Mathlib.Omega.{arith}
 use Rattle.std.proofs.lemmas.Grind.{common_steps}
 use lib.Dec.{eqb, lit<}
 use lib.ListN.{length, get_or}
-use borrow.Author.Tests.{not-true}
 use Rattle.paper.specs.declared.Entry.{Entry}
 use Rattle.paper.specs.Bytes.{run}
 use Rattle.paper.specs.Layout.{size_of}
@@ -17,10 +17,9 @@ use Rattle.paper.specs.Tag
 use Rattle.paper.proofs.Laws.{run-length-in}
 use Rattle.paper.proofs.Bounds.{no_line}
 use Rattle.tags.specs.Index
-use Rattle.tags.specs.declared.Numbers.{Numbers}
 use Rattle.tags.specs.declared.Bits.{Bits}
 use Rattle.tags.specs.Slots.{slot_of_offsets, slot_of_byte_counts}
-use Rattle.tags.specs.Numbers.{numbers_of, bits_of, bits_in, short_in, number_in, number_if, Single, SingleIf, numbers_in, Readable, Untiled}
+use Rattle.tags.specs.Numbers.{cut_of, numbers_of, bits_of, bits_in, short_in, number_in, Single, cut_in, planar_in, numbers_in, Readable}
 use Rattle.lines.specs.Ready.{held_at, at_slot}
 use Rattle.lines.proofs.Slots.{Slot, slot}
 use Rattle.tags.specs.Tagging.{Fitting}
@@ -79,26 +78,15 @@ module _ (v : Values) {others : List Line} (names : all named (picture_lines v o
   needed : (k : ℕ) → k < Index.pictured → (Of k).needed (tiled Hs) ≡ true → LinedBy Hs (Of k)
   needed k h n = needed-lined (picture_lines v others) names Hs w.ten w.nine k (in-front v others k h) n
 
-  -- a tag with one number, where it is asked for
-  if-is : (k other : ℕ) (asked : Bool) (h : k < Index.pictured) → (asked ≡ true → Lined Hs (Of k).tag (Of k).type (Of k).other 1 1)
-      → number_if asked big f (at_slot found k) other ≡ cond asked (value_of big (Of k).tag Hs) other
-  unfolding number_if
-  if-is k other true h one = number_is (slot_at k h) big (one refl)
-  if-is k other false h one = refl
-
-  single-if : (k : ℕ) (asked : Bool) (h : k < Index.pictured) → (asked ≡ true → Lined Hs (Of k).tag 3 4 1 1)
-      → SingleIf asked (length f) (at_slot found k)
-  single-if k asked h one e = single-is (slot_at k h) (one e)
-
   -- those of the family of the picture, and planar
   in-tiles : (k : ℕ) → k < Index.pictured → (Of k).needed true ≡ true → t ≡ true → LinedBy Hs (Of k)
   in-tiles k h n e = needed k h (ap (λ (b : Bool). (Of k).needed b) (sym w.tiled_is ∙ e) ∙ n)
 
-  in-strips : (k : ℕ) → k < Index.pictured → (Of k).needed false ≡ true → not t ≡ true → LinedBy Hs (Of k)
-  in-strips k h n e = needed k h (ap (λ (b : Bool). (Of k).needed b) (sym w.tiled_is ∙ not-true t e) ∙ n)
+  in-strips : (k : ℕ) → k < Index.pictured → (Of k).needed false ≡ true → t ≡ false → LinedBy Hs (Of k)
+  in-strips k h n e = needed k h (ap (λ (b : Bool). (Of k).needed b) (sym w.tiled_is ∙ e) ∙ n)
 
-  planar-at : not (eqb (at_slot found Index.planar).start 0) ≡ true → LinedBy Hs (Of Index.planar)
-  planar-at e = lined (picture_lines v others) names Hs w.ten Index.planar (in-front v others Index.planar (lit< tt)) ((slot_at Index.planar (lit< tt)).present ∙ e)
+  planar-at : eqb (at_slot found Index.planar).start 0 ≡ false → LinedBy Hs (Of Index.planar)
+  planar-at e = lined (picture_lines v others) names Hs w.ten Index.planar (in-front v others Index.planar (lit< tt)) ((slot_at Index.planar (lit< tt)).present ∙ ap not e)
 
   -- a tag of type SHORT alone
   also-long : {t a l m : ℕ} → Lined Hs t a a l m → Lined Hs t a 4 l m
@@ -112,11 +100,29 @@ module _ (v : Values) {others : List Line} (names : all named (picture_lines v o
         compression = short-within (slot_at Index.compression (lit< tt)) (needed Index.compression (lit< tt) refl);
         photometric = short-within (slot_at Index.photometric (lit< tt)) (needed Index.photometric (lit< tt) refl);
         samples = short-within (slot_at Index.samples (lit< tt)) (needed Index.samples (lit< tt) refl);
-        rows = single-if Index.rows_per_strip (not t) (lit< tt) (in-strips Index.rows_per_strip (lit< tt) refl);
-        planar = single-if Index.planar _ (lit< tt) (λ e. also-long (planar-at e));
-        tilewidth = single-if Index.tile_width t (lit< tt) (in-tiles Index.tile_width (lit< tt) refl);
-        tilelength = single-if Index.tile_length t (lit< tt) (in-tiles Index.tile_length (lit< tt) refl);
+        planar = λ e. single-is (slot_at Index.planar (lit< tt)) (also-long (planar-at e));
+        cut =
+            record {
+              rows = λ e. single-is (slot_at Index.rows_per_strip (lit< tt)) (in-strips Index.rows_per_strip (lit< tt) refl e);
+              tile_width = λ e. single-is (slot_at Index.tile_width (lit< tt)) (in-tiles Index.tile_width (lit< tt) refl e);
+              tile_length = λ e. single-is (slot_at Index.tile_length (lit< tt)) (in-tiles Index.tile_length (lit< tt) refl e);
+            };
       }
+
+  planar-is : planar_in big f (at_slot found Index.planar) ≡ cond (has Tag.planar Hs) (Some (value_of big Tag.planar Hs)) None
+  planar-is = grind (arith, common_steps, slot_at Index.planar (lit< tt), number_is (slot_at Index.planar (lit< tt)) big, planar-at)
+
+  cut-is : cut_in big f t found ≡ cut_of big Hs
+  unfolding cut_in cut_of
+  cut-is =
+      grind (
+        arith,
+        common_steps,
+        w.tiled_is,
+        λ (e : t ≡ true). number_is (slot_at Index.tile_width (lit< tt)) big (in-tiles Index.tile_width (lit< tt) refl e),
+        λ (e : t ≡ true). number_is (slot_at Index.tile_length (lit< tt)) big (in-tiles Index.tile_length (lit< tt) refl e),
+        λ (e : t ≡ false). number_is (slot_at Index.rows_per_strip (lit< tt)) big (in-strips Index.rows_per_strip (lit< tt) refl e),
+      )
 
   pub numbers-are : numbers_in big f t found ≡ numbers_of big Hs
   unfolding numbers_in numbers_of
@@ -126,22 +132,14 @@ module _ (v : Values) {others : List Line} (names : all named (picture_lines v o
       let p3 = short-is (slot_at Index.compression (lit< tt)) big (needed Index.compression (lit< tt) refl) in
       let p4 = short-is (slot_at Index.photometric (lit< tt)) big (needed Index.photometric (lit< tt) refl) in
       let p6 = short-is (slot_at Index.samples (lit< tt)) big (needed Index.samples (lit< tt) refl) in
-      let value : ℕ → ℕ = (λ (k : ℕ). value_of big k Hs) in
-      let p7 = if-is Index.rows_per_strip 1 (not t) (lit< tt) (in-strips Index.rows_per_strip (lit< tt) refl) ∙ ap (λ (b : Bool). cond (not b) (value Tag.rows_per_strip) 1) w.tiled_is in
-      let p9 = if-is Index.planar 1 (not (eqb (at_slot found Index.planar).start 0)) (lit< tt) planar-at
-      ∙ ap (λ (b : Bool). cond b (value Tag.planar) 1) (sym (slot_at Index.planar (lit< tt)).present) in
-      let p10 = if-is Index.tile_width 16 t (lit< tt) (in-tiles Index.tile_width (lit< tt) refl) ∙ ap (λ (b : Bool). cond b (value Tag.tile_width) 16) w.tiled_is in
-      let p11 = if-is Index.tile_length 16 t (lit< tt) (in-tiles Index.tile_length (lit< tt) refl) ∙ ap (λ (b : Bool). cond b (value Tag.tile_length) 16) w.tiled_is in
       λ i. record {
         width = p0 i;
         length = p1 i;
         compression = p3 i;
         photometric = p4 i;
         samples = p6 i;
-        rows = p7 i;
-        planar = p9 i;
-        tilewidth = p10 i;
-        tilelength = p11 i;
+        planar = planar-is i;
+        cut = cut-is i;
       }
 
   bits-typ : (at_slot found Index.bits).typ ≡ 3
@@ -197,10 +195,3 @@ module _ (v : Values) {others : List Line} (names : all named (picture_lines v o
       go : (b : Bool) → b ≡ tiled Hs → (at_slot found (cond b Index.tile_byte_counts Index.strip_byte_counts)).count ≡ count_of (byte_counts_tag Hs) Hs
       go true e = rw (← e) (count_at Index.tile_byte_counts (lit< tt))
       go false e = rw (← e) (count_at Index.strip_byte_counts (lit< tt))
-
--- the numbers of a picture of strips say nothing of tiles
-pub untiled : (big : Bool) (f : List ℕ) (t : Bool) (found : List Entry) (n : Numbers) → n ≡ numbers_in big f t found → t ≡ false → Untiled n
-unfolding numbers_in number_if
-untiled big f t found n e z =
-    let m = e ∙ ap (λ (b : Bool). numbers_in big f b found) z in
-    record { width = ap (λ (x : Numbers). x.tilewidth) m; length = ap (λ (x : Numbers). x.tilelength) m }

@@ -4,5 +4,6 @@ pub mod Slots
 pub mod Rules
 pub mod Fetched
 pub mod Kept
+pub mod Families
 pub mod Answers
 pub mod Accepted

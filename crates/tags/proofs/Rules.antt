@@ -1,6 +1,7 @@
--- Rules 11 and 12 over the values alone, where rules 27, 9 and 10 are kept: a present tag is as its line says, one that is not asked for counts as a number
--- that is allowed, and a line with no value rule disallows nothing. Assumes nothing.
+-- Rules 11 and 12 over the values alone, where rules 27, 9 and 10 are kept: a present tag is as its line says, one that is not asked for disallows
+-- nothing, and no more does a line with no value rule. Assumes nothing.
 use Prim.Native.Nat.{ℕ, ◌≤◌, ◌<◌}
+use Rattle.std.specs.Prelude.{Some, None}
 use mathlib.Core.Path.{◌≡◌, refl, sym, ap, ◌∙◌}
 use mathlib.Core.Bool.{Bool, true, false, cond, not, ◌||◌}
 use mathlib.Core.List.{List, [], ◌∷◌}
@@ -11,15 +12,16 @@ use lib.ListN.{length, get_or, drop}
 use Rattle.paper.specs.Bytes.{build, elems}
 use Rattle.paper.specs.Outcome.{first_bad}
 use Rattle.paper.specs.declared.Outcome.TheVariants.{Kept as kept}
-use Rattle.paper.specs.Tests.{all, some, allows}
-use Rattle.paper.specs.Tags.{Line, any, sixteens, Values, picture_lines, image_values, table, named, Held, find, has, count_of, value_of, values_of, strip_tags, tile_tags, has_some, tiled}
+use Rattle.paper.specs.Tests.{all, some}
+use Rattle.paper.specs.Tags.{Line, any, Values, picture_lines, image_values, table, named, Held, find, has, count_of, value_of, values_of, strip_tags, tile_tags, has_some, tiled}
 use Rattle.paper.specs.Tags.{offsets_tag, byte_counts_tag, piece_count, lacks, fits_the_line, disallowed, rule27, rule9, rule10, rule11, rule12}
 use Rattle.paper.specs.Tag
 use Rattle.paper.proofs.Laws.{kept-all}
 use Rattle.paper.proofs.Kept.{among, has-none}
 use Rattle.paper.proofs.Bounds.{no_line, table-named, fits_line}
 use Rattle.tags.specs.Index
-use Rattle.tags.specs.Numbers.{numbers_of, bits_of, eleven_by, eleven_of, count_of_pieces, twelve_of}
+use Rattle.tags.specs.Numbers.{cut_of, numbers_of, bits_of, pieces_by, count_of_pieces, is_tiled, twelve_of}
+use Rattle.tags.specs.Numbers.{rows_allowed, planar_allowed, tile_width_allowed, tile_length_allowed, eleven_by, eleven_of}
 use Rattle.tags.proofs.Slots.{in-front}
 
 -- ---- a present tag
@@ -72,12 +74,10 @@ module _ (big : Bool) (hs : List Held) where
   unfolding disallowed
   any-bad l e = grind (arith, common_steps, e, any-all)
 
-  -- a tag of count 1 that is present where it is asked for, and else absent; not asked for, it counts as one that is allowed
-  asked-bad : (l : Line) (other : ℕ) (asked : Bool) → (asked ≡ true → Lined hs l.tag l.type l.other 1 1) → (asked ≡ false → has l.tag hs ≡ false)
-      → l.values other ≡ true → disallowed big hs l ≡ not (l.values (cond asked (value_of big l.tag hs) other))
+  -- an absent tag
+  absent-bad : (l : Line) → has l.tag hs ≡ false → disallowed big hs l ≡ false
   unfolding disallowed
-  asked-bad l other true g n ok = one-bad l (g refl)
-  asked-bad l other false g n ok = grind (arith, common_steps, n refl, ok)
+  absent-bad l n = rw n
 
   -- a tag with some values
   some-bad : (l : Line) → LinedBy hs l → disallowed big hs l ≡ not (all l.values (values_of big l.tag hs))
@@ -100,34 +100,51 @@ module _ (hs : List Held) (mixed : rule27 hs ≡ kept) where
 
 -- ---- the two rules
 
-not-not : (b : Bool) → not b ≡ false → b ≡ true
-not-not b h = grind (arith, common_steps, h)
-
 -- of any picture
-pub eleven-by : (v : Values) (others : List Line) → all named (picture_lines v others) ≡ true → (big : Bool) (hs : List Held)
-    → rule27 hs ≡ kept → rule9 (picture_lines v others) hs ≡ kept → rule10 (picture_lines v others) hs ≡ kept
-    → eleven_by v (numbers_of big hs) (all v.bits (values_of big Tag.bits hs)) (first_bad (disallowed big hs) (λ l. l.tag) others) ≡ rule11 (picture_lines v others) big hs
-unfolding rule11 eleven_by numbers_of first_bad allows among some sixteens
-eleven-by v others names big hs mixed nine ten =
-    let at : ℕ → Line = (λ (k : ℕ). get_or (picture_lines v others) k no_line) in
-    let needed : (k : ℕ) → k < Index.pictured → (get_or (picture_lines v others) k no_line).needed (tiled hs) ≡ true → LinedBy hs (get_or (picture_lines v others) k no_line) =
-    λ k h n. needed-lined (picture_lines v others) names hs ten nine k (in-front v others k h) n in
-    rw (
-      one-bad big hs (at Index.width) (needed Index.width (lit< tt) refl),
-      one-bad big hs (at Index.length) (needed Index.length (lit< tt) refl),
-      some-bad big hs (at Index.bits) (needed Index.bits (lit< tt) refl),
-      one-bad big hs (at Index.compression) (needed Index.compression (lit< tt) refl),
-      one-bad big hs (at Index.photometric) (needed Index.photometric (lit< tt) refl),
-      any-bad big hs (at Index.strip_offsets) refl,
-      one-bad big hs (at Index.samples) (needed Index.samples (lit< tt) refl),
-      asked-bad big hs (at Index.rows_per_strip) 1 (not (tiled hs)) (needed Index.rows_per_strip (lit< tt)) (λ e. no-strip hs mixed (not-not (tiled hs) e) Tag.rows_per_strip refl) refl,
-      any-bad big hs (at Index.strip_byte_counts) refl,
-      asked-bad big hs (at Index.planar) 1 (has Tag.planar hs) (lined (picture_lines v others) names hs ten Index.planar (in-front v others Index.planar (lit< tt))) (λ e. e) refl,
-      asked-bad big hs (at Index.tile_width) 16 (tiled hs) (needed Index.tile_width (lit< tt)) (λ e. no_tile hs mixed e Tag.tile_width refl) refl,
-      asked-bad big hs (at Index.tile_length) 16 (tiled hs) (needed Index.tile_length (lit< tt)) (λ e. no_tile hs mixed e Tag.tile_length refl) refl,
-      any-bad big hs (at Index.tile_offsets) refl,
-      any-bad big hs (at Index.tile_byte_counts) refl,
-    )
+module _ (v : Values) (others : List Line) (names : all named (picture_lines v others) ≡ true) (big : Bool) (hs : List Held)
+    (mixed : rule27 hs ≡ kept) (nine : rule9 (picture_lines v others) hs ≡ kept) (ten : rule10 (picture_lines v others) hs ≡ kept) where
+  abbrev Of : ℕ → Line
+  Of k = get_or (picture_lines v others) k no_line
+
+  needed : (k : ℕ) → k < Index.pictured → (Of k).needed (tiled hs) ≡ true → LinedBy hs (Of k)
+  needed k h n = needed-lined (picture_lines v others) names hs ten nine k (in-front v others k h) n
+
+  -- 284, and the tags by which the picture is cut
+  planar-bad : disallowed big hs (Of Index.planar) ≡ not (planar_allowed (cond (has Tag.planar hs) (Some (value_of big Tag.planar hs)) None))
+  planar-bad = grind (arith, common_steps, absent-bad, one-bad, lined (picture_lines v others) names hs ten Index.planar (in-front v others Index.planar (lit< tt)))
+
+  rows-bad : disallowed big hs (Of Index.rows_per_strip) ≡ not (rows_allowed (cut_of big hs))
+  unfolding cut_of among some
+  rows-bad = grind (arith, common_steps, absent-bad, one-bad, needed Index.rows_per_strip (lit< tt), λ (e : tiled hs ≡ true). no-strip hs mixed e Tag.rows_per_strip refl)
+
+  tile-width-bad : disallowed big hs (Of Index.tile_width) ≡ not (tile_width_allowed (cut_of big hs))
+  unfolding cut_of among some
+  tile-width-bad = grind (arith, common_steps, absent-bad, one-bad, needed Index.tile_width (lit< tt), λ (e : tiled hs ≡ false). no_tile hs mixed e Tag.tile_width refl)
+
+  tile-length-bad : disallowed big hs (Of Index.tile_length) ≡ not (tile_length_allowed (cut_of big hs))
+  unfolding cut_of among some
+  tile-length-bad = grind (arith, common_steps, absent-bad, one-bad, needed Index.tile_length (lit< tt), λ (e : tiled hs ≡ false). no_tile hs mixed e Tag.tile_length refl)
+
+  pub eleven-by : eleven_by v (numbers_of big hs) (all v.bits (values_of big Tag.bits hs)) (first_bad (disallowed big hs) (λ l. l.tag) others)
+      ≡ rule11 (picture_lines v others) big hs
+  unfolding rule11 eleven_by numbers_of first_bad
+  eleven-by =
+      rw (
+        one-bad big hs (Of Index.width) (needed Index.width (lit< tt) refl),
+        one-bad big hs (Of Index.length) (needed Index.length (lit< tt) refl),
+        some-bad big hs (Of Index.bits) (needed Index.bits (lit< tt) refl),
+        one-bad big hs (Of Index.compression) (needed Index.compression (lit< tt) refl),
+        one-bad big hs (Of Index.photometric) (needed Index.photometric (lit< tt) refl),
+        any-bad big hs (Of Index.strip_offsets) refl,
+        one-bad big hs (Of Index.samples) (needed Index.samples (lit< tt) refl),
+        rows-bad,
+        any-bad big hs (Of Index.strip_byte_counts) refl,
+        planar-bad,
+        tile-width-bad,
+        tile-length-bad,
+        any-bad big hs (Of Index.tile_offsets) refl,
+        any-bad big hs (Of Index.tile_byte_counts) refl,
+      )
 
 -- and of the image, whose other lines allow every value
 pub eleven-is : (big : Bool) (hs : List Held) → rule27 hs ≡ kept → rule9 table hs ≡ kept → rule10 table hs ≡ kept
@@ -146,11 +163,16 @@ eleven-is big hs mixed nine ten =
     ) in
     ap (eleven_by image_values (numbers_of big hs) (bits_of big hs).allowed) (sym others) ∙ eleven-by image_values (drop Index.pictured table) table-named big hs mixed nine ten
 
-pub counted_is : (big : Bool) (hs : List Held) → count_of_pieces (numbers_of big hs) (tiled hs) ≡ piece_count big hs
-unfolding count_of_pieces numbers_of piece_count
+pub counted_is : (big : Bool) (hs : List Held) → count_of_pieces (numbers_of big hs) ≡ piece_count big hs
+unfolding pieces_by numbers_of cut_of piece_count
 counted_is big hs = grind (arith, common_steps)
 
+-- the cut is of tiles where the picture is in tiles
+pub cut-tiled : (big : Bool) (hs : List Held) → is_tiled (cut_of big hs) ≡ tiled hs
+unfolding cut_of
+cut-tiled big hs = grind (arith, common_steps)
+
 pub twelve-is : (big : Bool) (hs : List Held)
-    → twelve_of (numbers_of big hs) (bits_of big hs) (tiled hs) (count_of Tag.bits hs) (count_of (offsets_tag hs) hs) (count_of (byte_counts_tag hs) hs) ≡ rule12 big hs
+    → twelve_of (numbers_of big hs) (bits_of big hs) (count_of Tag.bits hs) (count_of (offsets_tag hs) hs) (count_of (byte_counts_tag hs) hs) ≡ rule12 big hs
 unfolding rule12 twelve_of numbers_of bits_of
-twelve-is big hs = rw (counted_is big hs)
+twelve-is big hs = rw (counted_is big hs, cut-tiled big hs)

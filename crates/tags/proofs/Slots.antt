@@ -1,7 +1,7 @@
 -- What the entries that a picture's directory has of its table's tags say of each tag, and of the two families; and what the image's table must satisfy.
 -- Assumes nothing.
 use Prim.Native.Nat.{ℕ, ◌<◌}
-use mathlib.Core.Path.{◌≡◌, refl, sym, ap, ap₂, ◌∙◌}
+use mathlib.Core.Path.{◌≡◌, refl, sym, ap₂, ◌∙◌}
 use mathlib.Core.Bool.{Bool, true, false, not, ◌&&◌, ◌||◌}
 use mathlib.Core.List.{List}
 use native.Mathlib.Omega.{arith}
@@ -24,6 +24,7 @@ use Rattle.lines.specs.Ready.{entries_at, held_at, at_slot, Ready}
 use Rattle.lines.proofs.Slots.{Slot, slot}
 use Rattle.tags.specs.Index
 use Rattle.tags.specs.Slots.{line_at, tag_at, strip_slots, tile_slots, some_at}
+use Rattle.tags.specs.Tagging.{mixed_at}
 
 -- the rows of the code say what the lines of the paper's table say, which is all that rules 9 and 10 ask
 said : all_say LINES table ≡ true
@@ -81,8 +82,6 @@ module _ (v : Values) {others : List Line} (names : all named (picture_lines v o
   tiles-are = rw (present-at Index.tile_width (lit< tt), present-at Index.tile_length (lit< tt), present-at Index.tile_offsets (lit< tt), present-at Index.tile_byte_counts (lit< tt))
 
   -- and rule 27 of them
-  pub mixed-is : {s t m : Bool} → s ≡ some_at strip_slots found → t ≡ some_at tile_slots found → m ≡ (s && t) || (not s && not t)
-      → rule27 (held_at (picture_lines v others) f big at c) ≡ breaks m 0
+  pub mixed-is : rule27 (held_at (picture_lines v others) f big at c) ≡ breaks (mixed_at found) 0
   unfolding rule27
-  mixed-is is-s is-t is_m =
-      sym (ap (λ (x : Bool). breaks x 0) (is_m ∙ ap₂ (λ (x y : Bool). (x && y) || (not x && not y)) (is-s ∙ strips-are) (is-t ∙ tiles-are)))
+  mixed-is = sym (ap₂ (λ (x y : Bool). breaks ((x && y) || (not x && not y)) 0) strips-are tiles-are)

@@ -3,11 +3,8 @@ use Prim.Native.Nat.{ℕ, ◌+◌, ◌-◌, ◌*◌, ◌≤◌, ◌<◌}
 use mathlib.Core.Path.{◌≡◌, sym, ap, ◌∙◌}
 use mathlib.Core.Bool.{Bool, true, ◌&&◌, ◌||◌, or-false, and-true, and_assoc}
 use mathlib.Core.List.{List, [], ◌∷◌, map}
-use native.Mathlib.Nat.{mul-le-mul}
 use native.Mathlib.Omega.{arith}
 use lib.Dec.{eqb}
-use mir.Syntax.{w64}
-use mir.Val.{Fits}
 use Rattle.paper.specs.Bytes.{num, build, elems}
 use Rattle.paper.specs.Tests.{all, some, just, allows}
 use Rattle.paper.proofs.Laws.{just-is}
@@ -56,11 +53,3 @@ pub bits-read : {s : List ℕ} {big : Bool} {k i first : ℕ} {allowed same : Bo
     → SoFar s big k (allows depths) i allowed → SoFar s big k (eqb first) i same → record { first = first; allowed = allowed; same = same } ≡ bits_in big k s
 unfolding bits_in
 bits-read l m e a b = rw (so-far-all l m a, so-far-all l m b, e)
-
--- a product of two that are at most a million is a number of 8 bytes
-pub product-fits : {a b c d : ℕ} → a ≤ c → c ≤ 1000000 → b ≤ d → d ≤ 1000000 → Fits w64 (a * b)
-product-fits {a} {b} {c} {d} h k l m =
-    let x : a ≤ 1000000 = omega arith in
-    let y : b ≤ 1000000 = omega arith in
-    let z = mul-le-mul {n₁ = a} {m₁ = b} {n₂ = 1000000} {m₂ = 1000000} x y in
-    omega arith

@@ -1,5 +1,5 @@
 -- The values that rules 11 and 12 ask for, as the paper has them and as they stand in a file, and the two rules over these. Assumes nothing.
-use Rattle.std.specs.Prelude.{ℕ, ◌+◌, ◌*◌, ◌≤◌, ◌<◌, ◌≡◌, Bool, true, cond, not, ◌&&◌, ◌||◌, List, [], ◌∷◌, eqb}
+use Rattle.std.specs.Prelude.{ℕ, ◌+◌, ◌*◌, ◌≤◌, ◌<◌, ◌≡◌, Bool, true, false, cond, not, ◌&&◌, ◌||◌, List, [], ◌∷◌, eqb, Option, Some, None}
 use Rattle.paper.specs.Bytes.{run, num, elems}
 use Rattle.paper.specs.Outcome.{breaks, first_of}
 use Rattle.paper.specs.declared.Outcome.{Outcome}
@@ -11,12 +11,21 @@ use Rattle.paper.specs.Tags.{Values, image_values, more, sixteens, Held, has, va
 use Rattle.paper.specs.declared.Entry.{Entry}
 use Rattle.lines.specs.Ready.{at_slot}
 use Rattle.tags.specs.Index
+use Rattle.tags.specs.Slots.{slot_of_offsets, slot_of_byte_counts}
+use Rattle.tags.specs.declared.Cut.{Cut}
+use Rattle.tags.specs.declared.Cut.TheVariants.{Strips, Tiles}
 use Rattle.tags.specs.declared.Numbers.{Numbers}
 use Rattle.tags.specs.declared.Bits.{Bits}
 
 -- ---- of the paper
 
--- what is not asked for counts as a number that is allowed
+-- how the picture is cut
+unfoldable pub cut_of : Bool → List Held → Cut
+cut_of big hs =
+    cond (tiled hs)
+    (Tiles (value_of big Tag.tile_width hs) (value_of big Tag.tile_length hs))
+    (Strips (value_of big Tag.rows_per_strip hs))
+
 unfoldable pub numbers_of : Bool → List Held → Numbers
 numbers_of big hs =
     record {
@@ -25,10 +34,8 @@ numbers_of big hs =
       compression = value_of big Tag.compression hs;
       photometric = value_of big Tag.photometric hs;
       samples = value_of big Tag.samples hs;
-      rows = cond (not (tiled hs)) (value_of big Tag.rows_per_strip hs) 1;
-      planar = cond (has Tag.planar hs) (value_of big Tag.planar hs) 1;
-      tilewidth = cond (tiled hs) (value_of big Tag.tile_width hs) 16;
-      tilelength = cond (tiled hs) (value_of big Tag.tile_length hs) 16;
+      planar = cond (has Tag.planar hs) (Some (value_of big Tag.planar hs)) None;
+      cut = cut_of big hs;
     }
 
 abbrev pub depths : List Range
@@ -54,18 +61,25 @@ short_in big f start = num big 2 (run f start 2) 0
 unfoldable pub number_in : Bool → List ℕ → Entry → ℕ
 number_in big f e = num big (size_of e.typ) (run f e.start (size_of e.typ)) 0
 
--- of a tag that is asked for, and else `other`
-unfoldable pub number_if : Bool → Bool → List ℕ → Entry → ℕ → ℕ
-number_if asked big f e other = cond asked (number_in big f e) other
-
 -- such a value lies in a file of n bytes
 pub record Single (n : ℕ) (e : Entry) : Type 0 where
   pub kind : eqb e.typ 3 || eqb e.typ 4 ≡ true
   pub within : e.start + size_of e.typ ≤ n
 
--- where it is asked for
-abbrev pub SingleIf : Bool → ℕ → Entry → Type 0
-SingleIf asked n e = asked ≡ true → Single n e
+unfoldable pub cut_in : Bool → List ℕ → Bool → List Entry → Cut
+cut_in big f tiled found =
+    cond tiled
+    (Tiles (number_in big f (at_slot found Index.tile_width)) (number_in big f (at_slot found Index.tile_length)))
+    (Strips (number_in big f (at_slot found Index.rows_per_strip)))
+
+pub record CutReadable (n : ℕ) (tiled : Bool) (found : List Entry) : Type 0 where
+  pub rows : tiled ≡ false → Single n (at_slot found Index.rows_per_strip)
+  pub tile_width : tiled ≡ true → Single n (at_slot found Index.tile_width)
+  pub tile_length : tiled ≡ true → Single n (at_slot found Index.tile_length)
+
+-- 284 may be absent
+abbrev pub planar_in : Bool → List ℕ → Entry → Option ℕ
+planar_in big f e = cond (eqb e.start 0) None (Some (number_in big f e))
 
 unfoldable pub numbers_in : Bool → List ℕ → Bool → List Entry → Numbers
 numbers_in big f tiled found =
@@ -75,10 +89,8 @@ numbers_in big f tiled found =
       compression = short_in big f (at_slot found Index.compression).start;
       photometric = short_in big f (at_slot found Index.photometric).start;
       samples = short_in big f (at_slot found Index.samples).start;
-      rows = number_if (not tiled) big f (at_slot found Index.rows_per_strip) 1;
-      planar = number_if (not (eqb (at_slot found Index.planar).start 0)) big f (at_slot found Index.planar) 1;
-      tilewidth = number_if tiled big f (at_slot found Index.tile_width) 16;
-      tilelength = number_if tiled big f (at_slot found Index.tile_length) 16;
+      planar = planar_in big f (at_slot found Index.planar);
+      cut = cut_in big f tiled found;
     }
 
 pub record Readable (n : ℕ) (tiled : Bool) (found : List Entry) : Type 0 where
@@ -87,31 +99,30 @@ pub record Readable (n : ℕ) (tiled : Bool) (found : List Entry) : Type 0 where
   pub compression : (at_slot found Index.compression).start + 2 ≤ n
   pub photometric : (at_slot found Index.photometric).start + 2 ≤ n
   pub samples : (at_slot found Index.samples).start + 2 ≤ n
-  pub rows : SingleIf (not tiled) n (at_slot found Index.rows_per_strip)
-  pub planar : SingleIf (not (eqb (at_slot found Index.planar).start 0)) n (at_slot found Index.planar)
-  pub tilewidth : SingleIf tiled n (at_slot found Index.tile_width)
-  pub tilelength : SingleIf tiled n (at_slot found Index.tile_length)
-
--- each number that is counted with is one of 4 bytes
-pub record FourBytes (n : Numbers) : Type 0 where
-  pub width : n.width < 4294967296
-  pub length : n.length < 4294967296
-  pub rows : n.rows < 4294967296
-  pub tilewidth : n.tilewidth < 4294967296
-  pub tilelength : n.tilelength < 4294967296
+  pub planar : eqb (at_slot found Index.planar).start 0 ≡ false → Single n (at_slot found Index.planar)
+  pub cut : CutReadable n tiled found
 
 -- ---- rules 11 and 12
-
-abbrev pub sides : List Range
-sides = between 1 1000000 ∷ []
 
 abbrev pub codings : List Range
 codings = just 1 ∷ just 2 ∷ just 32773 ∷ []
 
--- the numbers of a picture of strips say nothing of tiles
-pub record Untiled (n : Numbers) : Type 0 where
-  pub width : n.tilewidth ≡ 16
-  pub length : n.tilelength ≡ 16
+-- what is not asked for disallows nothing
+abbrev pub rows_allowed : Cut → Bool
+rows_allowed (Strips rows) = allows (between 1 more ∷ []) rows
+rows_allowed (Tiles width length) = true
+
+abbrev pub planar_allowed : Option ℕ → Bool
+planar_allowed None = true
+planar_allowed (Some planar) = allows (just 1 ∷ []) planar
+
+abbrev pub tile_width_allowed : Cut → Bool
+tile_width_allowed (Strips rows) = true
+tile_width_allowed (Tiles width length) = sixteens width
+
+abbrev pub tile_length_allowed : Cut → Bool
+tile_length_allowed (Strips rows) = true
+tile_length_allowed (Tiles width length) = sixteens length
 
 -- with the values that this kind of picture may have, whether those of 258 are such, and what is said of the lines behind the picture's
 unfoldable pub eleven_by : Values → Numbers → Bool → Outcome → Outcome
@@ -122,34 +133,51 @@ eleven_by v n bitsallowed rest =
     (cond (not (allows codings n.compression)) (broken Tag.compression)
     (cond (not (v.photometric n.photometric)) (broken Tag.photometric)
     (cond (not (v.samples n.samples)) (broken Tag.samples)
-    (cond (not (allows (between 1 more ∷ []) n.rows)) (broken Tag.rows_per_strip)
-    (cond (not (allows (just 1 ∷ []) n.planar)) (broken Tag.planar)
-    (cond (not (sixteens n.tilewidth)) (broken Tag.tile_width)
-    (cond (not (sixteens n.tilelength)) (broken Tag.tile_length) rest)))))))))
+    (cond (not (rows_allowed n.cut)) (broken Tag.rows_per_strip)
+    (cond (not (planar_allowed n.planar)) (broken Tag.planar)
+    (cond (not (tile_width_allowed n.cut)) (broken Tag.tile_width)
+    (cond (not (tile_length_allowed n.cut)) (broken Tag.tile_length) rest)))))))))
 
 -- the image's other lines allow every value
 unfoldable pub eleven_of : Numbers → Bool → Outcome
 eleven_of n bitsallowed = eleven_by image_values n bitsallowed kept
 
+-- no number of a cut is 0
+abbrev pub Positive : Cut → Type 0
+Positive (Strips rows) = 0 < rows
+Positive (Tiles width length) = (0 < width) × (0 < length)
+
 -- what rule 11 leaves to be counted with
 pub record Countable (n : Numbers) : Type 0 where
-  pub four_bytes : FourBytes n
   pub width : n.width ≤ 1000000
   pub length : n.length ≤ 1000000
-  pub rows : 0 < n.rows
-  pub tilewidth : 0 < n.tilewidth
-  pub tilelength : 0 < n.tilelength
+  pub cut : Positive n.cut
 
-unfoldable pub count_of_pieces : Numbers → Bool → ℕ
-count_of_pieces n tiled =
-    cond tiled (rounded_up n.width n.tilewidth * rounded_up n.length n.tilelength) (rounded_up n.length n.rows)
+-- how many pieces a cut makes of a picture so wide and so long
+unfoldable pub pieces_by : Cut → ℕ → ℕ → ℕ
+pieces_by (Strips rows) wide long = rounded_up long rows
+pieces_by (Tiles width length) wide long = rounded_up wide width * rounded_up long length
+
+abbrev pub count_of_pieces : Numbers → ℕ
+count_of_pieces n = pieces_by n.cut n.width n.length
+
+abbrev pub is_tiled : Cut → Bool
+is_tiled (Strips rows) = false
+is_tiled (Tiles width length) = true
 
 -- with the counts of 258, of the offsets and of the byte counts
-unfoldable pub twelve_of : Numbers → Bits → Bool → ℕ → ℕ → ℕ → Outcome
-twelve_of n bits tiled bitscount offsets bytecounts =
+unfoldable pub twelve_of : Numbers → Bits → ℕ → ℕ → ℕ → Outcome
+twelve_of n bits bitscount offsets bytecounts =
     first_of
     (breaks (not (eqb bitscount n.samples) || not bits.same) Tag.bits
     ∷ breaks ((eqb n.compression 2 || eqb n.compression 32773) && (not (eqb bits.first 1) || not (eqb n.samples 1))) Tag.compression
-    ∷ breaks (not (eqb offsets (count_of_pieces n tiled))) (cond tiled Tag.tile_offsets Tag.strip_offsets)
-    ∷ breaks (not (eqb bytecounts (count_of_pieces n tiled))) (cond tiled Tag.tile_byte_counts Tag.strip_byte_counts)
+    ∷ breaks (not (eqb offsets (count_of_pieces n))) (cond (is_tiled n.cut) Tag.tile_offsets Tag.strip_offsets)
+    ∷ breaks (not (eqb bytecounts (count_of_pieces n))) (cond (is_tiled n.cut) Tag.tile_byte_counts Tag.strip_byte_counts)
     ∷ [])
+
+-- with those that were found
+abbrev pub twelve_in : Numbers → Bits → List Entry → Outcome
+twelve_in n bits found =
+    twelve_of n bits (at_slot found Index.bits).count
+    (at_slot found (slot_of_offsets (is_tiled n.cut))).count
+    (at_slot found (slot_of_byte_counts (is_tiled n.cut))).count

@@ -1,6 +1,6 @@
 // The image's table of tags, as document 01 and request C-11 print it, a line a tag: its number, when it is needed, the one or two types that it may
 // have, the least and the most of its count. Which values are allowed is in `allowed_values`.
-use layout::Cell;
+use layout::{Cell, cells};
 use lines::{ASCII, BYTE, DOUBLE, LONG, Line, MORE, SHORT, table};
 
 pub const LINES: [Line; SLOTS] = table![
@@ -27,7 +27,8 @@ pub const LINES: [Line; SLOTS] = table![
     [50909, Never, BYTE, BYTE, 1, MORE],
 ];
 
-// The line of each tag, from 0, which is the slot of its entry too. Plain numbers, since they index lists: a variant of an enum would be cast at each use.
+// The line of each tag, from 0, which is the slot of its entry too: a constant for each line. Plain numbers, since they index lists: a variant of an enum would
+// be cast at each use.
 pub const WIDTH: usize = 0;
 
 pub const LENGTH: usize = 1;
@@ -75,56 +76,10 @@ pub const SLOTS: usize = 21;
 
 // ---- the cells of the tags, for the pass over a directory
 
-// The cell of a tag, by its slot.
-macro_rules! cell {
-    ($slot:ident) => {
-        Cell {
-            tag: LINES[$slot].tag as u16,
-            slot: $slot as u8,
-        }
-    };
-}
-
-// What stands in a cell that has none of them: a tag of another cell, and no slot.
-const NO_CELL: Cell = Cell {
-    tag: 0,
-    slot: SLOTS as u8,
-};
-
 // The factor for which no two of them share a cell.
 pub const FACTOR: u16 = 687;
 
-pub const CELLS: [Cell; layout::CELLS] = [
-    cell!(TILE_WIDTH),
-    cell!(DOUBLES),
-    cell!(TILE_LENGTH),
-    cell!(CHARACTERS),
-    NO_CELL,
-    cell!(TILE_OFFSETS),
-    NO_CELL,
-    cell!(SAMPLES),
-    cell!(TILE_BYTE_COUNTS),
-    NO_CELL,
-    cell!(ROWS_PER_STRIP),
-    cell!(METADATA),
-    cell!(STRIP_BYTE_COUNTS),
-    NO_CELL,
-    cell!(MATRIX),
-    cell!(WIDTH),
-    NO_CELL,
-    cell!(LENGTH),
-    cell!(SCALE),
-    NO_CELL,
-    cell!(BITS),
-    NO_CELL,
-    NO_CELL,
-    cell!(COMPRESSION),
-    cell!(TIEPOINT),
-    NO_CELL,
-    cell!(PLANAR),
-    NO_CELL,
-    cell!(STRIP_OFFSETS),
-    NO_CELL,
-    cell!(KEY_DIRECTORY),
-    cell!(PHOTOMETRIC),
+pub const CELLS: [Cell; layout::CELLS] = cells![
+    LINES: TILE_WIDTH, DOUBLES, TILE_LENGTH, CHARACTERS, _, TILE_OFFSETS, _, SAMPLES, TILE_BYTE_COUNTS, _, ROWS_PER_STRIP, METADATA, STRIP_BYTE_COUNTS, _,
+    MATRIX, WIDTH, _, LENGTH, SCALE, _, BITS, _, _, COMPRESSION, TIEPOINT, _, PLANAR, _, STRIP_OFFSETS, _, KEY_DIRECTORY, PHOTOMETRIC,
 ];

@@ -6,8 +6,8 @@ ghost use Rattle.outcomes.specs.Ruled.{ruled};
 ghost use Rattle.layout.specs.Opening.{LaidAt};
 ghost use Rattle.trial.specs.Trial.{trial_of};
 
-use layout::{Cell, Directory};
-use lines::{LONG, Line, SHORT, table};
+use layout::{Cell, Directory, cells};
+use lines::{LONG, Line, SHORT, Tabled, table};
 use paper::Verdict;
 use std::io;
 
@@ -24,7 +24,7 @@ const LINES: [Line; SLOTS] = table![
     [34853, Never, LONG, LONG, 1, 1],
 ];
 
-// The line of each tag, from 0, which is its slot in what a pass finds too.
+// The line of each tag, from 0, which is its slot in what a pass finds too. Plain numbers, since they index lists, as those of the image's table are.
 const SUBFILE: usize = 0;
 
 const WIDTH: usize = 1;
@@ -38,59 +38,11 @@ const POSITION: usize = 4;
 // How many there are.
 const SLOTS: usize = 5;
 
-// The cell of a tag, by its slot.
-macro_rules! cell {
-    ($slot:ident) => {
-        Cell {
-            tag: LINES[$slot].tag as u16,
-            slot: $slot as u8,
-        }
-    };
-}
-
-// What stands in a cell that has none of them: a tag of another cell, and no slot. The first of them has the cell of tag 0, so 0 may stand in all the
-// others.
-const NO_CELL: Cell = Cell {
-    tag: 0,
-    slot: SLOTS as u8,
-};
-
 // The factor for which no two of them share a cell.
 const FACTOR: u16 = 33;
 
-const CELLS: [Cell; layout::CELLS] = [
-    cell!(SUBFILE),
-    cell!(WIDTH),
-    NO_CELL,
-    NO_CELL,
-    cell!(RESOLUTION),
-    NO_CELL,
-    cell!(UNIT),
-    NO_CELL,
-    NO_CELL,
-    NO_CELL,
-    NO_CELL,
-    NO_CELL,
-    cell!(POSITION),
-    NO_CELL,
-    NO_CELL,
-    NO_CELL,
-    NO_CELL,
-    NO_CELL,
-    NO_CELL,
-    NO_CELL,
-    NO_CELL,
-    NO_CELL,
-    NO_CELL,
-    NO_CELL,
-    NO_CELL,
-    NO_CELL,
-    NO_CELL,
-    NO_CELL,
-    NO_CELL,
-    NO_CELL,
-    NO_CELL,
-    NO_CELL,
+const CELLS: [Cell; layout::CELLS] = cells![
+    LINES: SUBFILE, WIDTH, _, _, RESOLUTION, _, UNIT, _, _, _, _, _, POSITION, _, _, _, _, _, _, _, _, _, _, _, _, _, _, _, _, _, _, _
 ];
 
 // ---- the judgement
@@ -101,12 +53,14 @@ fn trial_laid(file: &[u8], d: Directory) -> Result<(), Verdict>
     ensures { result ≡ ruled (trial_of file.now) tt }
 {
     let mut found = [layout::ABSENT; SLOTS];
-    let s = layout::scan(&CELLS, FACTOR, d.bytes(file), d, file.len(), &mut found);
-    if s.verdict.number != 0 {
-        return Err(s.verdict);
-    }
-    outcomes::rule(9, lines::needed_tags(&LINES, &found, false))?;
-    outcomes::rule(10, lines::fitting_tags(&LINES, &found))
+    let s = d.entries(file).scan(&CELLS, FACTOR, file.len(), &mut found);
+    s.judged?;
+    let tabled = Tabled {
+        lines: &LINES,
+        found: &found,
+    };
+    outcomes::rule(9, tabled.needed_tags(false))?;
+    outcomes::rule(10, tabled.fitting_tags())
 }
 
 // Rules 1 to 7, 9 and 10, by the trial's table.
@@ -137,10 +91,7 @@ const WIDTH_ALONE: [u8; 26] = *b"MM\0*\0\0\0\x08\
 
 // The line of a file: verdict and place.
 fn print_verdict(rt: &impl Print, file: &[u8]) -> io::Result<()> {
-    let v = judge_trial(file).err().unwrap_or(Verdict {
-        number: 0,
-        place: 0,
-    });
+    let v = judge_trial(file).err().unwrap_or(outcomes::ACCEPTED);
     println!(rt; "verdict {} place {}", v.number, v.place)
 }
 

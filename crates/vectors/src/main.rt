@@ -10,7 +10,7 @@ use std::io::{Read, Write};
 use std::rt::Files;
 use std::{env, io};
 
-// The answer to what stands in a reader, behind its name.
+// The answer to what stands in a reader, behind its name. `bench` has it without one: each program is proved by itself, and `no_name` is an error of this one.
 fn judge<R: Read, W: Write>(out: &mut W, name: &[u8], input: &mut R) -> io::Result<()>
     ensures { OnOk result (IfSome (R.remaining input.old) (λ xs. Appends (W.contents out.old) (W.contents out.new) (answer_of (name.now ++ codes " ") xs))) }
 {

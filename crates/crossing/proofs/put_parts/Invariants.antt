@@ -1,6 +1,6 @@
 -- `put_parts`: those of the entries before i are written. Assumes nothing.
 use Rattle.std.proofs.Common.{◌≡◌, map, take}
-use Rattle.image.specs.Stages.{value_part}
+use Rattle.layout.specs.Parts.{value_part}
 use Rattle.crossing.proofs.put_parts.Given as goal
 
 abbrev pub invariant-loop-i : goal.invariant-loop-i

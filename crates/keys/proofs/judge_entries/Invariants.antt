@@ -6,4 +6,4 @@ use Rattle.keys.proofs.judge_entries.Given as goal
 
 abbrev pub invariant-loop-i : goal.invariant-loop-i
 invariant-loop-i g l =
-    Passing (not (eqb g.row.BIG 0)) l.values.directory.now l.values.doubles.now l.values.characters.now l.head.count l.i l.sixteen l.seventeen l.next l.found
+    Passing (not (eqb g.row.BIG 0)) l.head.entries.directory.now l.doubles l.characters l.head.entries.count l.i l.sixteen l.seventeen l.next l.found

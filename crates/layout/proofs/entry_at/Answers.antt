@@ -7,5 +7,5 @@ use Rattle.layout.proofs.entry_at.Goals as goal
 pub returns-then-len-le4 : goal.returns-then-len-le4
 returns-then-len-le4 c = search (rules, value-length, near-entry)
 
-pub returns : goal.returns
-returns c = search (rules, value-length, far-entry)
+pub returns-else-len-le4 : goal.returns-else-len-le4
+returns-else-len-le4 c = search (rules, value-length, far-entry)

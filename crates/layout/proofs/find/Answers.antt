@@ -1,4 +1,4 @@
--- `find` passes over the entries from the first to the last; its turns are laws of `Plain`. Assumes nothing.
+-- `find` passes over the tags from the first to the last; its turns are laws of `Plain`. Assumes nothing.
 use Rattle.layout.proofs.Plain.{seek-start, seek_found, seek-more, seek-none}
 use Rattle.layout.proofs.find.Goals as goal
 

@@ -3,4 +3,4 @@ use Rattle.layout.proofs.Plain.{Sought}
 use Rattle.layout.proofs.find.Given as goal
 
 abbrev pub invariant-loop-i : goal.invariant-loop-i
-invariant-loop-i l = Sought l.tag l.d.big l.d.at l.d.count l.dir l.i
+invariant-loop-i l = Sought l.tag l.big l.count l.dir l.i

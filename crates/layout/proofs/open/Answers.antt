@@ -12,14 +12,14 @@ pub returns-then-is_misplaced : goal.returns-then-is_misplaced
 unfolding opened_of ruled offset_stage offset_rules first rule4
 returns-then-is_misplaced c =
     let four = rw c.is_misplaced.ensures at c.if-is_misplaced.true in
-    rw (c.broken.ensures, four)
+    rw (c.refused.ensures, four)
 
 pub returns-then-count-n : goal.returns-then-count-n
 unfolding opened_of ruled offset_stage offset_rules count_stage count_rules first rule4 rule5
 returns-then-count-n c =
     let four = rw c.is_misplaced.ensures at c.if-is_misplaced.false in
     let five = rw or_assoc at c.if-count-n.true in
-    rw (c.broken-then-count-n.ensures, four, count-is, ← c.short-count.ensures.0, five)
+    rw (c.refused-then-count-n.ensures, four, count-is, ← c.short-count.ensures.0, five)
 
 pub returns : goal.returns
 unfolding opened_of ruled offset_stage offset_rules count_stage count_rules first rule4 rule5

@@ -11,7 +11,7 @@ returns-then-is_bad c = rw c.thirteen.ensures (within-first _ _ _ c.first-first.
 pub returns-in-Some-stop : goal.returns-in-Some-stop
 returns-in-Some-stop c =
     rw c.thirteen-in-Some-stop.ensures
-    (within-later _ _ _ c.first-first.ensures _ c.in-Some.is _ c.is_bad.ensures c.if-is_bad.false _ c.skip-reach.ensures _ c.in-Some-stop.is)
+    (within-later _ _ _ c.first-first.ensures _ c.in-Some.is _ c.is_bad.ensures c.if-is_bad.false _ (rw c.of_file-file.ensures at c.skip-reach.ensures) _ c.in-Some-stop.is)
 
 pub returns-in-None : goal.returns-in-None
-returns-in-None c = within-all _ _ _ c.first-first.ensures _ c.in-Some.is _ c.is_bad.ensures c.if-is_bad.false _ c.skip-reach.ensures c.in-None.is
+returns-in-None c = within-all _ _ _ c.first-first.ensures _ c.in-Some.is _ c.is_bad.ensures c.if-is_bad.false _ (rw c.of_file-file.ensures at c.skip-reach.ensures) c.in-None.is

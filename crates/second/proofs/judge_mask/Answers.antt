@@ -6,8 +6,5 @@ use Rattle.second.proofs.judge_mask.Goals as goal
 pub open-requires : goal.open-requires
 open-requires c = search size
 
-pub mask_laid-requires : goal.mask_laid-requires
-mask_laid-requires c = record { before = c.requires; laid = search rules }
-
 pub returns-in_err-directory : goal.returns-in_err-directory
 returns-in_err-directory c = search (rules, open-bad)

@@ -10,8 +10,5 @@ judge_tags-requires c = let p = c.requires in let s = sides-low p.second.before 
 pub returns-in_err-tiled : goal.returns-in_err-tiled
 returns-in_err-tiled c = search (rules, tags-bad)
 
-pub mask_pictures-requires : goal.mask_pictures-requires
-mask_pictures-requires c = record { known = c.requires; tagged = c.in_ok-tiled.ensures }
-
 pub returns : goal.returns
 returns c = c.mask_pictures.ensures ∙ tags-good c.requires c.in_ok-tiled.ensures

@@ -6,8 +6,7 @@ use Rattle.lines.specs.Lined.{all_say, says}
 use Rattle.lines.specs.Rows.{needed_by}
 use Rattle.lines.proofs.Gathered.{tags-are}
 use Rattle.mask.specs.Masking.{numbered}
-use Rattle.crossing.specs.Pictures.{places_in}
-use Rattle.second.proofs.Pictured.{count-asked, count_room, part-asked, entries-asked, at_low, image-shown, mask-named, crossed-is}
+use Rattle.second.proofs.Pictured.{count-asked, count_room, entries-asked, image-shown, mask-named, crossed-is}
 use Rattle.second.proofs.mask_pictures.Goals as goal
 
 pub value-requires : goal.value-requires
@@ -16,32 +15,24 @@ value-requires c = search count-asked
 pub short-requires : goal.short-requires
 short-requires c = search count_room
 
-pub bytes-dir-requires : goal.bytes-dir-requires
-bytes-dir-requires c = let k = c.short.ensures.0 in search part-asked
-
-pub judge_entries-s-requires : goal.judge_entries-s-requires
-judge_entries-s-requires c = entries-asked c.requires.known.second.before c.value.ensures c.short.ensures.0 c.bytes-dir.ensures
-
-pub gather-requires : goal.gather-requires
-gather-requires c =
-    let b = c.requires.known.second.before in
-    let k = c.short.ensures.0 in
-    let a = entries-asked b c.value.ensures k c.bytes-dir.ensures in
-    (a.0, a.2, at_low b c.value.ensures k, refl)
+pub entries-entries-requires : goal.entries-entries-requires
+entries-entries-requires c = entries-asked c.requires.known.second.before c.value.ensures c.short.ensures.0
 
 pub judge_pictures-requires : goal.judge_pictures-requires
-unfolding all_say says needed_by table places_in
+unfolding all_say says needed_by table
 judge_pictures-requires c =
     let p = c.requires in
-    let k =
-    image-shown p.known.second.before c.value.ensures c.short.ensures.0 c.bytes-dir.ensures
-    c.judge_entries-s.ensures (tags-are _ table refl) c.gather.ensures c.has_tiles-owntiled.ensures
-    c.offsets_slot.ensures.0 c.byte_counts_slot.ensures.0 in
-    let m = mask-named p c.offsets_slot-2.ensures.0 c.byte_counts_slot-2.ensures.0 in
-    search (k, m)
+    let g = rw (c.entries-entries.ensures.directory, c.entries-entries.ensures.bytes) at c.gather.ensures in
+    let s = rw (c.entries-entries.ensures.directory, c.entries-entries.ensures.bytes) at c.judge-s.ensures in
+    let k = image-shown p.known.second.before c.value.ensures c.short.ensures.0 s (tags-are _ table refl) g c.has_tiles.ensures refl refl in
+    let m = mask-named p refl refl in
+    let i = c.new-pictured.ensures in
+    let j = c.new-masked.ensures in
+    rw (i.0, i.1, i.2, i.3, j.0, j.1, j.2, j.3) (search (k, m))
 
 pub returns : goal.returns
 returns c =
     let p = c.requires in
-    c.judge_pictures.ensures
+    let r = rw (c.new-pictured.ensures.0, c.new-masked.ensures.0) at c.judge_pictures.ensures in
+    r
     ∙ ap (λ (v : Verdict). numbered v (tt {0})) (crossed-is p.known.second.before c.value.ensures c.short.ensures.0 p.known.view_is)

@@ -1,14 +1,8 @@
 -- `search` passes by the places that lie in the gap, and widens the span by them where one is asked for. Assumes nothing.
 use Rattle.std.proofs.Common.{rules}
-use Rattle.pieces.proofs.Passing.{passed-start, passed-stop, passed-turn, passed-end}
+use Rattle.pieces.proofs.Passing.{passed-turn, passed-end}
 use Rattle.pieces.proofs.places.Places.search.Goals as goal
 use Rattle.pieces.proofs.places.Places.search.Goals.{then-this-ne0, else-this-ne0}
-
-pub loop-i-init : goal.loop-i-init
-loop-i-init g c = search (rules, passed-start)
-
-pub returns-then-is_out : goal.returns-then-is_out
-returns-then-is_out g c = search (rules, passed-stop)
 
 pub loop-i-preserved : goal.loop-i-preserved
 loop-i-preserved g c =

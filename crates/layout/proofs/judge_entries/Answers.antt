@@ -1,6 +1,0 @@
--- `judge_entries` passes over the directory for rule 6 and for rule 7. Assumes nothing.
-use Rattle.layout.proofs.Plain.{conclusion}
-use Rattle.layout.proofs.judge_entries.Goals as goal
-
-pub returns : goal.returns
-returns c = conclusion _ _ _ _ _ _ c.order_again.ensures c.judge_values.ensures c.conclude.ensures

@@ -1,9 +1,0 @@
--- `first_broken` cuts the lines in two; its returns are laws of `Walk`. Assumes nothing.
-use Rattle.lines.proofs.Walk.{cut-broken, cut-kept, rest}
-use Rattle.lines.proofs.first_broken.Goals as goal
-
-pub returns : goal.returns
-returns g c = λ test is. cut-broken test c.args.lines.now c.args.found.now c.min-k.result (c.broken_line.ensures test is) c.in_default.not-Kept
-
-pub returns-in-Kept : goal.returns-in-Kept
-returns-in-Kept g c = λ test is. cut-kept test c.args.lines.now c.args.found.now c.min-k.result (c.broken_line.ensures test is) c.in-Kept.is (simp rest at (c.broken_line-in-Kept.ensures test is))
