@@ -38,9 +38,8 @@
  * pointers.
  *
  * Link with libpetalbuzz.a (x86-64, with the instructions of x86-64-v2); it needs
- * no other library, and of C's own memcpy and memset alone, which a compiler may
- * call itself. Take this header and the library from one commit, and compile the
- * host anew with them: a later one may have longer structs. */
+ * no other library. Take this header and the library from one commit, and compile
+ * the host anew with them: a later one may have longer structs. */
 #ifndef PETALBUZZ_H
 #define PETALBUZZ_H
 

@@ -1,7 +1,7 @@
 //! The image's table as the code has it, `crates/tags/src/table.rt`: its rows
 //! are the document's, no number of a tag or of a slot stands elsewhere in the
 //! code, and what every file goes through has the table folded in, none of it as
-//! data.
+//! data. And the library asks for no name from outside.
 
 use outside::reader::tables::{Count, Family, Need, TAGS};
 use std::fs;
@@ -159,12 +159,36 @@ fn laid(row: &[u32; 6]) -> Vec<u8> {
     std::iter::once(head).chain(numbers).flat_map(u64::to_le_bytes).collect()
 }
 
-#[test]
-fn the_table_is_folded_into_the_code() {
+/// The object of the library.
+fn library() -> Vec<u8> {
     let path = root().join("crates/petalbuzz/out/libpetalbuzz.a");
     let archive = fs::read(&path).unwrap_or_else(|why| panic!("{}: {why}", path.display()));
     let object = archive.windows(4).position(|bytes| bytes == b"\x7FELF").expect("an object");
-    let object = &archive[object..];
+    archive[object..].to_vec()
+}
+
+#[test]
+fn the_library_asks_for_no_name_from_outside() {
+    let object = &library()[..];
+    let symbols = section(object, ".symtab").expect("symbols");
+    let strings = section(object, ".strtab").expect("their names");
+    let called = |symbol: &[u8]| {
+        let rest = &strings[le(symbol, 0, 4)..];
+        let name = rest.split(|&byte| byte == 0).next().unwrap_or(rest);
+        String::from_utf8_lossy(name).into_owned()
+    };
+    // Section 0 is that of a name which stands elsewhere; the first symbol has none.
+    let (outside, own): (Vec<&[u8]>, Vec<&[u8]>) =
+        symbols.chunks(24).skip(1).partition(|symbol| le(symbol, 6, 2) == 0);
+    let outside: Vec<String> = outside.into_iter().map(called).collect();
+    assert!(outside.is_empty(), "{outside:?}");
+    let calls = own.into_iter().map(called).filter(|name| name.starts_with("petalbuzz_")).count();
+    assert_eq!(calls, 7, "calls for C");
+}
+
+#[test]
+fn the_table_is_folded_into_the_code() {
+    let object = &library()[..];
     // What every file goes through. A mask's judgement, beside it, gathers by the table as data.
     let code =
         section(object, ".text.judge::examine_own").expect("the judgement by the file's own rules");

@@ -12,6 +12,7 @@ use Rattle.pieces.specs.Spans.{span_of}
 use Rattle.layout.specs.Repeats.{further_of}
 use Rattle.image.specs.declared.Image.{Image}
 use Rattle.image.specs.declared.Next.{Next}
+use Rattle.image.specs.declared.Imaged.{Imaged}
 
 -- where the value of a tag stands; nowhere, with no byte, where the tag is absent
 unfoldable pub tag_part : ℕ → List Held → Part
@@ -35,13 +36,20 @@ image_in v next =
       directory = tag_part Tag.key_directory v.held;
       doubles = tag_part Tag.doubles v.held;
       characters = tag_part Tag.characters v.held;
-      scale = tag_part Tag.scale v.held;
-      tiepoint = tag_part Tag.tiepoint v.held;
-      matrix = tag_part Tag.matrix v.held;
       metadata = text_part Tag.metadata v.held;
       further = further_of v.head.at (map (λ h. h.entry) v.held);
     }
 
+-- with what the survey alone asks for
+unfoldable pub imaged_in : View → ℕ → Imaged
+imaged_in v next =
+    record {
+      image = image_in v next;
+      scale = tag_part Tag.scale v.held;
+      tiepoint = tag_part Tag.tiepoint v.held;
+      matrix = tag_part Tag.matrix v.held;
+    }
+
 -- or the first broken rule
-unfoldable pub image_of : List ℕ → Result Image Verdict
-image_of f = ruled (image_stage f) (image_in (view f) (next_in f (head_in f)))
+unfoldable pub image_of : List ℕ → Result Imaged Verdict
+image_of f = ruled (image_stage f) (imaged_in (view f) (next_in f (head_in f)))

@@ -13,7 +13,7 @@ ghost use Rattle.pieces.specs.Gaps.{Addable, parts_of, named_parts};
 ghost use Rattle.pieces.specs.Reading.{pieces_in, listed};
 ghost use Rattle.tags.specs.Index.{many};
 ghost use Rattle.tags.specs.Tagging.{view_of};
-ghost use Rattle.image.specs.Imaging.{image_in, image_of};
+ghost use Rattle.image.specs.Imaging.{imaged_in, image_of};
 ghost use Rattle.image.specs.Naming.{Standing, named_pieces};
 ghost use Rattle.image.specs.Stages.{present_part, Passed, Fits, placed_in, outer_of};
 
@@ -30,8 +30,8 @@ pub struct Next {
     pub span: Span,
 }
 
-// What these rules find of a file: the byte order, the picture's size, where the directory stands, the next offset if it is not 0, and where the values stand
-// that the survey and the other calls ask for. Of these only the metadata text tells whether it is there: of the others an absent one is as one with no bytes.
+// The image of a file: the byte order, the picture's size, where the directory stands, the next offset if it is not 0, and where the values stand that more than
+// the survey asks for. Of these only the metadata text tells whether it is there: of the others an absent one is as one with no bytes.
 #[derive(Clone, Copy)]
 pub struct Image {
     pub big: bool,
@@ -41,11 +41,18 @@ pub struct Image {
     pub directory: Part,
     pub doubles: Part,
     pub characters: Part,
+    pub metadata: Option<Part>,
+    pub further: Further,
+}
+
+// What these rules find of a file: its image, and where the values stand that the survey alone asks for. They stand beside the image, which is told to the end: with
+// them what an examination finds would have more than 256 bytes, and a compiler would clear the room for it by a call of C's `memset`.
+#[derive(Clone, Copy)]
+pub struct Imaged {
+    pub image: Image,
     pub scale: Part,
     pub tiepoint: Part,
     pub matrix: Part,
-    pub metadata: Option<Part>,
-    pub further: Further,
 }
 
 // ---- the pieces
@@ -151,13 +158,13 @@ fn image_found(
     next: u32,
     found: &[Entry; SLOTS],
     further: Further,
-) -> Result<Image, Verdict>
+) -> Result<Imaged, Verdict>
     requires { Passed file.now d.big d.at d.count found.now further }
-    ensures { result ≡ ruled (picture_stage (view_of table file.now d.big d.at d.count)) (image_in (view_of table file.now d.big d.at d.count) next) }
+    ensures { result ≡ ruled (picture_stage (view_of table file.now d.big d.at d.count)) (imaged_in (view_of table file.now d.big d.at d.count) next) }
 {
     let picture = tags::judge_tags(file, d, found, further)?;
     let span = judge_pieces(file, d, picture, found, further, next != 0)?;
-    Ok(Image {
+    let image = Image {
         big: d.big,
         size: picture.size,
         at: d.at,
@@ -165,20 +172,23 @@ fn image_found(
         directory: layout::part_of(found[table::KEY_DIRECTORY]),
         doubles: layout::part_of(found[table::DOUBLES]),
         characters: layout::part_of(found[table::CHARACTERS]),
+        metadata: part_if(found[table::METADATA]),
+        further,
+    };
+    Ok(Imaged {
+        image,
         scale: layout::part_of(found[table::SCALE]),
         tiepoint: layout::part_of(found[table::TIEPOINT]),
         matrix: layout::part_of(found[table::MATRIX]),
-        metadata: part_if(found[table::METADATA]),
-        further,
     })
 }
 
 // Rules 6, 7, 9 to 14 and 27, of a file whose directory is laid.
-fn image_laid(file: &[u8], d: Directory) -> Result<Image, Verdict>
+fn image_laid(file: &[u8], d: Directory) -> Result<Imaged, Verdict>
     requires { LaidAt file.now d.big d.at d.count }
     ensures { result ≡ image_of file.now }
 {
-    let mut found = [layout::ABSENT; SLOTS];
+    let mut found = [layout::absent(); SLOTS];
     let entries = d.entries(file);
     let s = entries.scan(&table::CELLS, table::FACTOR, file.len(), &mut found);
     s.judged?;
@@ -186,7 +196,7 @@ fn image_laid(file: &[u8], d: Directory) -> Result<Image, Verdict>
 }
 
 // Rules 1 to 7, 9 to 14 and 27.
-pub fn judge_image(file: &[u8]) -> Result<Image, Verdict>
+pub fn judge_image(file: &[u8]) -> Result<Imaged, Verdict>
     ensures { result ≡ image_of file.now }
 {
     let head = layout::read_head(file)?;

@@ -17,7 +17,6 @@ use Rattle.paper.specs.Outcome.{verdict, first}
 use Rattle.paper.specs.Judge.{view, view_at, head_in, next_in, pieces_of, runs_of, survey_of, survey_rules, image_stage, survey_stage, file_stage, mask_stage, verdict_of}
 use Rattle.paper.specs.Judge.{has_mask, mask_verdict, rule28}
 use Rattle.paper.specs.declared.Verdict.{Verdict}
-use Rattle.paper.proofs.First.{chain-both}
 use Rattle.pieces.specs.Spans.{span_of}
 use Rattle.outcomes.specs.Ruled.{ruled}
 use Rattle.outcomes.proofs.Ruled.{first-refuses, first-kept, found-ruled, kept-ruled, other-refuses}
@@ -25,8 +24,9 @@ use Rattle.tags.specs.Index
 use Rattle.tags.specs.Slots.{line_at, tag_at}
 use Rattle.keys.specs.Pass.{runs}
 use Rattle.ground.specs.Answer.{Sized}
-use Rattle.image.specs.Imaging.{tag_part, next_of, image_in, image_of}
+use Rattle.image.specs.Imaging.{tag_part, next_of, image_in, imaged_in, image_of}
 use Rattle.image.specs.declared.Image.{Image}
+use Rattle.image.specs.declared.Imaged.{Imaged}
 use Rattle.image.specs.declared.Next.{Next}
 use Rattle.mask.specs.Masking.{numbered}
 use Rattle.second.specs.Before.{Before}
@@ -51,12 +51,12 @@ pub record Names (f : List ℕ) (p : Part) (bytes : List ℕ) : Type 0 where
   pub within : p.start + p.len ≤ length f
   pub bytes_are : run f p.start p.len ≡ bytes
 
-module _ (f : List ℕ) {i : Image} (is : Ok i ≡ image_of f) where
+module _ (f : List ℕ) {i : Imaged} (is : Ok i ≡ image_of f) where
   image-zero : (image_stage f).number ≡ 0
   unfolding image_of
   image-zero = (found-ruled (image_stage f) _ i is).0
 
-  here : i ≡ own_image f
+  here : i ≡ imaged_in (view f) (next_in f (head_in f))
   unfolding image_of
   here = (found-ruled (image_stage f) _ i is).1
 
@@ -66,47 +66,47 @@ module _ (f : List ℕ) {i : Image} (is : Ok i ≡ image_of f) where
       let s : Stands f (view f).held (tag_at k) = image-stands f image-zero k h in
       subst (λ (q : Part). Names f q (bytes_of (tag_at k) (view f).held)) (sym e) (record { within = s.within; bytes_are = s.bytes })
 
-  pub directory-named : Names f i.directory (bytes_of Tag.key_directory (view f).held)
-  unfolding image_in tag_at line_at table
-  directory-named = names i.directory Index.key_directory (lit< tt) (ap (λ (x : Image). x.directory) here)
+  pub directory-named : Names f i.image.directory (bytes_of Tag.key_directory (view f).held)
+  unfolding imaged_in image_in tag_at line_at table
+  directory-named = names i.image.directory Index.key_directory (lit< tt) (ap (λ (x : Imaged). x.image.directory) here)
 
-  pub doubles-named : Names f i.doubles (bytes_of Tag.doubles (view f).held)
-  unfolding image_in tag_at line_at table
-  doubles-named = names i.doubles Index.doubles (lit< tt) (ap (λ (x : Image). x.doubles) here)
+  pub doubles-named : Names f i.image.doubles (bytes_of Tag.doubles (view f).held)
+  unfolding imaged_in image_in tag_at line_at table
+  doubles-named = names i.image.doubles Index.doubles (lit< tt) (ap (λ (x : Imaged). x.image.doubles) here)
 
-  pub characters-named : Names f i.characters (bytes_of Tag.characters (view f).held)
-  unfolding image_in tag_at line_at table
-  characters-named = names i.characters Index.characters (lit< tt) (ap (λ (x : Image). x.characters) here)
+  pub characters-named : Names f i.image.characters (bytes_of Tag.characters (view f).held)
+  unfolding imaged_in image_in tag_at line_at table
+  characters-named = names i.image.characters Index.characters (lit< tt) (ap (λ (x : Imaged). x.image.characters) here)
 
   pub scale-named : Names f i.scale (bytes_of Tag.scale (view f).held)
-  unfolding image_in tag_at line_at table
-  scale-named = names i.scale Index.scale (lit< tt) (ap (λ (x : Image). x.scale) here)
+  unfolding imaged_in image_in tag_at line_at table
+  scale-named = names i.scale Index.scale (lit< tt) (ap (λ (x : Imaged). x.scale) here)
 
   pub tiepoint-named : Names f i.tiepoint (bytes_of Tag.tiepoint (view f).held)
-  unfolding image_in tag_at line_at table
-  tiepoint-named = names i.tiepoint Index.tiepoint (lit< tt) (ap (λ (x : Image). x.tiepoint) here)
+  unfolding imaged_in image_in tag_at line_at table
+  tiepoint-named = names i.tiepoint Index.tiepoint (lit< tt) (ap (λ (x : Imaged). x.tiepoint) here)
 
   pub matrix-named : Names f i.matrix (bytes_of Tag.matrix (view f).held)
-  unfolding image_in tag_at line_at table
-  matrix-named = names i.matrix Index.matrix (lit< tt) (ap (λ (x : Image). x.matrix) here)
+  unfolding imaged_in image_in tag_at line_at table
+  matrix-named = names i.matrix Index.matrix (lit< tt) (ap (λ (x : Imaged). x.matrix) here)
 
   -- the runs that the survey is handed
   module _ {directory doubles characters scale tiepoint matrix : List ℕ}
-      (d : directory ≡ run f i.directory.start i.directory.len) (x : doubles ≡ run f i.doubles.start i.doubles.len)
-      (ch : characters ≡ run f i.characters.start i.characters.len) (s : scale ≡ run f i.scale.start i.scale.len)
+      (d : directory ≡ run f i.image.directory.start i.image.directory.len) (x : doubles ≡ run f i.image.doubles.start i.image.doubles.len)
+      (ch : characters ≡ run f i.image.characters.start i.image.characters.len) (s : scale ≡ run f i.scale.start i.scale.len)
       (t : tiepoint ≡ run f i.tiepoint.start i.tiepoint.len) (m : matrix ≡ run f i.matrix.start i.matrix.len) where
     pub runs-sized : Sized scale tiepoint matrix
     runs-sized =
         rw (s ∙ scale-named.bytes_are, t ∙ tiepoint-named.bytes_are, m ∙ matrix-named.bytes_are) (sized f image-zero)
 
-    module _ {r : Result Surveyed Verdict} (so : r ≡ surveyed_of (runs i.big directory doubles characters) scale tiepoint matrix i.size.width i.size.length) where
+    module _ {r : Result Surveyed Verdict} (so : r ≡ surveyed_of (runs i.image.big directory doubles characters) scale tiepoint matrix i.image.size.width i.image.size.length) where
       survey-is : r ≡ ruled (survey_stage (view f)) (survey_found (runs_of (view f)) (survey_of (view f)))
-      unfolding surveyed_of survey_stage survey_rules runs_of survey_of image_in
+      unfolding surveyed_of survey_stage survey_rules runs_of survey_of imaged_in image_in
       survey-is =
           so
           ∙ (λ k. surveyed_of
-          (runs (here k).big ((d ∙ directory-named.bytes_are) k) ((x ∙ doubles-named.bytes_are) k) ((ch ∙ characters-named.bytes_are) k))
-          ((s ∙ scale-named.bytes_are) k) ((t ∙ tiepoint-named.bytes_are) k) ((m ∙ matrix-named.bytes_are) k) (here k).size.width (here k).size.length)
+          (runs (here k).image.big ((d ∙ directory-named.bytes_are) k) ((x ∙ doubles-named.bytes_are) k) ((ch ∙ characters-named.bytes_are) k))
+          ((s ∙ scale-named.bytes_are) k) ((t ∙ tiepoint-named.bytes_are) k) ((m ∙ matrix-named.bytes_are) k) (here k).image.size.width (here k).image.size.length)
 
       left : own_of f ≡ ruled (survey_stage (view f)) (examined_in f)
       unfolding own_of file_stage image_of
@@ -117,15 +117,16 @@ module _ (f : List ℕ) {i : Image} (is : Ok i ≡ image_of f) where
       survey-bad h = other-refuses (survey_stage (view f)) _ (examined_in f) _ (h ∙ survey-is) ∙ sym left
 
       -- neither refuses
-      pub both-good : {j : Surveyed} → Ok j ≡ r → Ok (record { surveyed = j; image = i }) ≡ own_of f
-      unfolding examined_in
+      pub both-good : {j : Surveyed} → Ok j ≡ r → Ok (record { surveyed = j; image = i.image }) ≡ own_of f
+      unfolding examined_in imaged_in
       both-good {j} h =
           let w = found-ruled (survey_stage (view f)) _ j (h ∙ survey-is) in
-          (λ k. Ok (record { surveyed = w.1 k; image = here k }))
+          (λ k. Ok (record { surveyed = w.1 k; image = (here k).image }))
           ∙ sym (left ∙ kept-ruled (survey_stage (view f)) (examined_in f) w.0)
 
-  -- ---- and then the mask
+-- ---- and then the mask
 
+module _ (f : List ℕ) {i : Image} (here : i ≡ own_image f) where
   next-is : i.next ≡ next_of (view f) (next_in f (head_in f))
   unfolding image_in
   next-is = ap (λ (x : Image). x.next) here
@@ -216,11 +217,9 @@ module _ (f : List ℕ) {e : Examined} (is : Ok e ≡ own_of f) where
   here-own = (found-ruled (file_stage f) _ e is).1
 
   -- the image is the file's
-  pub own-image-is : Ok e.image ≡ image_of f
-  unfolding image_of examined_in file_stage
-  own-image-is =
-      ap (λ (x : Examined). Ok x.image) here-own
-      ∙ sym (kept-ruled (image_stage f) (own_image f) (chain-both (image_stage f) (survey_stage (view f)) own-zero).0)
+  pub own-image-is : e.image ≡ own_image f
+  unfolding examined_in
+  own-image-is = ap (λ (x : Examined). x.image) here-own
 
   left-mask : examined_of f ≡ ruled (mask_stage f) (examined_in f)
   unfolding own_of examined_of verdict_of

@@ -2,12 +2,11 @@
 // may have, rule 28.
 #![tactic(auto)]
 
-ghost use Rattle.std.specs.Prelude.{◌≡◌, Ok, Some};
+ghost use Rattle.std.specs.Prelude.{◌≡◌, Some};
 ghost use Rattle.paper.specs.Judge.{file_stage, mask_stage};
 ghost use Rattle.paper.specs.Calls.{judged_of};
 ghost use Rattle.outcomes.specs.Ruled.{ruled};
-ghost use Rattle.image.specs.Imaging.{image_of};
-ghost use Rattle.judge.specs.Examining.{examined_of, own_of, judged_by};
+ghost use Rattle.judge.specs.Examining.{own_image, examined_of, own_of, judged_by};
 
 use image::{Image, Next};
 use keys::Values;
@@ -25,7 +24,8 @@ pub struct Examined {
 fn examine_own(file: &[u8]) -> Result<Examined, Verdict>
     ensures { result ≡ own_of file.now }
 {
-    let image = image::judge_image(file)?;
+    let seen = image::judge_image(file)?;
+    let image = seen.image;
     let values = Values {
         directory: layout::value(file, image.directory),
         doubles: layout::value(file, image.doubles),
@@ -34,9 +34,9 @@ fn examine_own(file: &[u8]) -> Result<Examined, Verdict>
     let surveyed = survey::judge_survey(
         image.big,
         values,
-        layout::value(file, image.scale),
-        layout::value(file, image.tiepoint),
-        layout::value(file, image.matrix),
+        layout::value(file, seen.scale),
+        layout::value(file, seen.tiepoint),
+        layout::value(file, seen.matrix),
         image.size.width,
         image.size.length,
     )?;
@@ -45,7 +45,7 @@ fn examine_own(file: &[u8]) -> Result<Examined, Verdict>
 
 // Rule 28 of a file that keeps its own rules, whose image this is and whose next offset leads to a mask.
 fn masked(file: &[u8], image: &Image, next: Next) -> Result<(), Verdict>
-    requires { ((file_stage file.now).number ≡ 0) × (Ok image.now ≡ image_of file.now) × (image.now.next ≡ Some next) }
+    requires { ((file_stage file.now).number ≡ 0) × (image.now ≡ own_image file.now) × (image.now.next ≡ Some next) }
     ensures { result ≡ ruled (mask_stage file.now) tt }
 {
     second::judge_mask(file, image, next).map_err(|number| Verdict {
@@ -55,19 +55,23 @@ fn masked(file: &[u8], image: &Image, next: Next) -> Result<(), Verdict>
     Ok(())
 }
 
-// What a file shows. It is compiled into each of its callers, so that what is told of a mask burdens no file without one. What was found is asked by reference:
-// taken out of its `Result` it would be copied for each file.
+// What a file shows. It is compiled into each of its callers, so that what is told of a mask burdens no file without one. What was found is taken out of its
+// `Result`, which lent or handed on whole would be copied for each file, by a call of C's `memcpy`; and the mask is lent a copy of the image, so that a file
+// without one has none.
 #[inline(always)]
 pub fn examine(file: &[u8]) -> Result<Examined, Verdict>
     ensures { result ≡ examined_of file.now }
 {
-    let found = examine_own(file);
-    if let Ok(e) = &found {
-        if let Some(next) = e.image.next {
-            masked(file, &e.image, next)?;
+    match examine_own(file) {
+        Ok(e) => {
+            if let Some(next) = e.image.next {
+                let image = e.image;
+                masked(file, &image, next)?;
+            }
+            Ok(e)
         }
+        Err(verdict) => Err(verdict),
     }
-    found
 }
 
 // What is answered: of a refused file there is nothing beside the verdict.

@@ -8,6 +8,7 @@ ghost use Rattle.outcomes.specs.Ruled.{ruled};
 ghost use Rattle.paper.specs.Bytes.{run};
 ghost use Rattle.paper.specs.Outcome.{ascending, verdict, or_else};
 ghost use Rattle.paper.specs.Pieces.{part};
+ghost use Rattle.paper.specs.Tags.{absent};
 ghost use Rattle.paper.specs.Layout.{odd, dir_len, size_of, entry_of, entry_at, entries, behind, bad_value, rule7};
 ghost use Rattle.layout.specs.Opening.{headed_of, opened_of, entries_of, scanned_at, follow_of, ordered_of, concluded_of};
 ghost use Rattle.layout.specs.Finding.{slot_in, slot_tags, Celled, place_in, found_in};
@@ -50,6 +51,15 @@ pub const ABSENT: Entry = Entry {
     start: 0,
     len: 0,
 };
+
+// The same, by a call that is compiled into none of its callers. Lists of entries begin with it: one that began with the constant would be cleared by a call of C's
+// `memset`, and the library asks for no name from outside.
+#[inline(never)]
+pub fn absent() -> Entry
+    ensures { result ≡ absent.entry }
+{
+    ABSENT
+}
 
 // A directory with its bytes: the count, the entries, the next offset.
 #[derive(Clone, Copy)]

@@ -66,9 +66,10 @@ pub fn gather(lines: &[Line], entries: Entries, found: &mut [Entry])
     requires { length found.old ≡ length lines.now }
     ensures { found.new ≡ firsts (row_tags lines.now) (entries_of entries.entry.directory entries.entry.bytes.now) }
 {
+    let none = layout::absent();
     // By index: of entries that are written through a zip with `iter_mut` nothing is known behind the loop.
     for (k, line) in lines.iter().enumerate() {
-        found[k] = entries.first(line.tag as usize).unwrap_or(layout::ABSENT);
+        found[k] = entries.first(line.tag as usize).unwrap_or(none);
     }
 }
 

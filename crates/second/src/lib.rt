@@ -27,6 +27,8 @@ fn mask_pictures(
     requires { Third file.now image.now next d tiled found.now }
     ensures { result ≡ numbered (crossed file.now) tt }
 {
+    // First of all, as in `mask_laid`: further down the list would be cleared by a call as well before it is filled.
+    let mut ownfound = [layout::absent(); table::SLOTS];
     let start = Part {
         start: image.at,
         len: 2,
@@ -38,7 +40,6 @@ fn mask_pictures(
     };
     let entries = own.entries(file);
     let s = entries.judge(file.len());
-    let mut ownfound = [layout::ABSENT; table::SLOTS];
     lines::gather(&table::LINES, entries, &mut ownfound);
     let pictured = Picture::new(own, &ownfound, tags::has_tiles(&ownfound));
     let masked = Picture::new(d, found, tiled);
@@ -65,13 +66,13 @@ fn mask_laid(file: &[u8], image: &Image, next: Next, d: Directory) -> Result<(),
     requires { Second file.now image.now next d }
     ensures { result ≡ numbered (mask_verdict file.now) tt }
 {
+    let mut found = [layout::absent(); SLOTS];
     let entries = d.entries(file);
     let s = entries.judge(file.len());
     s.judged.map_err(|verdict| verdict.number)?;
     if s.next != 0 {
         return Err(8);
     }
-    let mut found = [layout::ABSENT; SLOTS];
     lines::gather(&mask::table::LINES, entries, &mut found);
     mask_found(file, image, next, d, &found)
 }

@@ -52,7 +52,7 @@ fn trial_laid(file: &[u8], d: Directory) -> Result<(), Verdict>
     requires { LaidAt file.now d.big d.at d.count }
     ensures { result ≡ ruled (trial_of file.now) tt }
 {
-    let mut found = [layout::ABSENT; SLOTS];
+    let mut found = [layout::absent(); SLOTS];
     let s = d.entries(file).scan(&CELLS, FACTOR, file.len(), &mut found);
     s.judged?;
     let tabled = Tabled {

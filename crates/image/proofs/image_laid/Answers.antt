@@ -26,7 +26,7 @@ entries-entries-requires c = entries-asked c.requires
 
 pub scan-s-requires : goal.scan-s-requires
 unfolding firsts first_with slot_tags cell_of in_cell right all index_of build
-scan-s-requires c = (record { different = refl {a = true}; stand = refl {a = true}; rights = refl {a = true} }, refl {a = None})
+scan-s-requires c = (record { different = refl {a = true}; stand = refl {a = true}; rights = refl {a = true} }, rw c.absent-found.ensures (refl {a = None}))
 
 pub returns-in_err-s : goal.returns-in_err-s
 returns-in_err-s c =

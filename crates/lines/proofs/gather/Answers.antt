@@ -16,7 +16,7 @@ loop-k-preserved c = λ i e.
     let es = entries_of c.args.entries.directory c.args.entries.bytes.now in
     let all = firsts (row_tags c.args.lines.now) es in
     let stored : c.unwrap_or.result ≡ get_or all c.loop-k.k e =
-    rw (c.unwrap_or.ensures, c.first.ensures) (found-first _ es ∙ sym (gathered-at c.args.lines.now es c.loop-k.k _ e c.loop-k-test.true))
+    rw (c.unwrap_or.ensures, c.first.ensures, c.absent-none.ensures) (found-first _ es ∙ sym (gathered-at c.args.lines.now es c.loop-k.k _ e c.loop-k-test.true))
     in
     rw stored (fill_by_more (λ j. get_or all j e) c.loop-k.found c.loop-k.k e (omega arith) (λ j. c.loop-k.invariant j e) i)
 

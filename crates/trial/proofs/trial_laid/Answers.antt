@@ -19,7 +19,7 @@ entries-requires c = entries-asked c.requires
 -- what a table's cells must satisfy, and what is found in no entry: both are computed
 pub scan-s-requires : goal.scan-s-requires
 unfolding cell_of in_cell slot_tags right build all index_of first_with firsts
-scan-s-requires c = (record { different = refl {a = true}; stand = refl {a = true}; rights = refl {a = true} }, refl)
+scan-s-requires c = (record { different = refl {a = true}; stand = refl {a = true}; rights = refl {a = true} }, rw c.absent-found.ensures refl)
 
 pub returns-in_err-s : goal.returns-in_err-s
 returns-in_err-s c =
