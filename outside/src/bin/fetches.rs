@@ -208,8 +208,10 @@ impl Bench<'_> {
         let _ = std::fs::remove_file(&told);
         let mut command = Command::new(self.emulator);
         command.arg("-plugin").arg(self.folder.join(format!("{plugin}.so")));
-        command.env("LOADS_FROM", ADDRESS).env("LOADS_LENGTH", file.len().to_string());
-        command.env("LOADS_OUT", &told).env("COUNT_OUT", &told);
+        // The program finds these words on its stack: as many bytes of them in every run,
+        // so that what it does before the call, and with its stack, is always the same.
+        command.env_clear().env("LOADS_OUT", &told).env("COUNT_OUT", &told);
+        command.env("LOADS_FROM", ADDRESS).env("LOADS_LENGTH", format!("{:010}", file.len()));
         command.args(self.program).arg(ADDRESS).arg(&path).args(calls);
         let output = command.output().map_err(|why| why.to_string())?;
         let said = String::from_utf8_lossy(&output.stdout);
