@@ -1,4 +1,4 @@
--- What verdict 0 of rules 27 and 9 to 12 gives to the functions that come after: rule 10 is kept, width and length have their upper bounds, and each
+-- What verdict 0 of rules 27 and 9 to 12 gives to the functions that come after: the five rules are kept, width and length have their bounds, and each
 -- tag's entry is as its line says. Assumes nothing.
 use Prim.Native.Nat.{ℕ, ◌*◌, ◌≤◌, ◌<◌}
 use mathlib.Core.Path.{◌≡◌, refl, sym, ap, ◌∙◌, subst}
@@ -52,6 +52,7 @@ view_is f big at c e = rw e
 -- the offsets or the byte counts of the pieces: SHORTs or LONGs, one for each piece
 pub record PieceColumn (f : List ℕ) (hs : List Held) (found : List Entry) (pieces t k : ℕ) : Type 0 where
   pub slot : Slot f hs found t k
+  pub kind : eqb (at_slot found k).typ 3 || eqb (at_slot found k).typ 4 ≡ true
   pub wide : size_of (at_slot found k).typ ≡ width (eqb (at_slot found k).typ 4)
   pub count : (at_slot found k).count ≡ pieces
   pub room : width (eqb (at_slot found k).typ 4) * (at_slot found k).count ≤ length (run f (at_slot found k).start (at_slot found k).len)
@@ -72,6 +73,7 @@ module _ {f : List ℕ} {hs : List Held} {found : List Entry} {t k : ℕ} (s : S
       let w = width_of (at_slot found k).typ q in
       record {
         slot = s;
+        kind = q;
         wide = w;
         count = sym (count-of s) ∙ e;
         room = subst (λ (x : ℕ). x * (at_slot found k).count ≤ length (run f (at_slot found k).start (at_slot found k).len)) w
@@ -123,7 +125,7 @@ module _ (v : Values) {others : List Line} (names : all named (picture_lines v o
 
   module _ (nine : rule9 (picture_lines v others) (held_at (picture_lines v others) f big at c) ≡ kept) (ten : rule10 (picture_lines v others) (held_at (picture_lines v others) f big at c) ≡ kept)
       (twelve : rule12 big (held_at (picture_lines v others) f big at c) ≡ kept) where
-    agreed : Agreed (numbers_of big All) (count_of (offsets_tag All) All) (count_of (byte_counts_tag All) All)
+    agreed : Agreed (numbers_of big All) (count_of Tag.bits All) (count_of (offsets_tag All) All) (count_of (byte_counts_tag All) All)
     agreed = twelve-gives (numbers_of big All) (bits_of big All) _ _ _ (twelve-is big All ∙ twelve)
 
     -- a needed tag has a type of its line
@@ -191,8 +193,14 @@ told f big at c p is =
     }
 
 pub record Accepted (f : List ℕ) (big : Bool) (at c : ℕ) (found : List Entry) : Type 0 where
+  pub twenty_seven : rule27 (held_at table f big at c) ≡ kept
+  pub nine : rule9 table (held_at table f big at c) ≡ kept
   pub ten : rule10 table (held_at table f big at c) ≡ kept
+  pub eleven : rule11 table big (held_at table f big at c) ≡ kept
+  pub twelve : rule12 big (held_at table f big at c) ≡ kept
+  pub width_low : 1 ≤ value_of big Tag.width (held_at table f big at c)
   pub width_high : value_of big Tag.width (held_at table f big at c) ≤ 1000000
+  pub length_low : 1 ≤ value_of big Tag.length (held_at table f big at c)
   pub length_high : value_of big Tag.length (held_at table f big at c) ≤ 1000000
   pub offsets : PieceColumn f (held_at table f big at c) found
       (piece_count big (held_at table f big at c)) (offsets_tag (held_at table f big at c)) (slot_of_offsets (tiled (held_at table f big at c)))
@@ -229,10 +237,18 @@ module _ (f : List ℕ) (big : Bool) (at c : ℕ) (found : List Entry) (r : Read
   pub accepted : Accepted f big at c found
   unfolding numbers_of line_at tag_at table size_of
   accepted =
+      let w = in-range 1 1000000 (value_of big Tag.width Hs) allowed.width in
+      let l = in-range 1 1000000 (value_of big Tag.length Hs) allowed.length in
       record {
+        twenty_seven = rules.twenty_seven;
+        nine = rules.nine;
         ten = rules.ten;
-        width_high = (in-range 1 1000000 (value_of big Tag.width Hs) allowed.width).1;
-        length_high = (in-range 1 1000000 (value_of big Tag.length Hs) allowed.length).1;
+        eleven = rules.eleven;
+        twelve = rules.twelve;
+        width_low = w.0;
+        width_high = w.1;
+        length_low = l.0;
+        length_high = l.1;
         offsets = offsets-column image_values table-named r rules.twenty_seven rules.nine rules.ten rules.twelve;
         byte_counts = byte-counts-column image_values table-named r rules.twenty_seven rules.nine rules.ten rules.twelve;
         no_offsets = no-offsets-column image_values table-named r rules.twenty_seven;

@@ -61,12 +61,13 @@ eleven-gives v n bitsallowed rest h =
     }
 
 -- rule 12 kept
-pub record Agreed (n : Numbers) (offsets bytecounts : ℕ) : Type 0 where
+pub record Agreed (n : Numbers) (bitscount offsets bytecounts : ℕ) : Type 0 where
+  pub bits_are : bitscount ≡ n.samples
   pub offsets_are : offsets ≡ count_of_pieces n
   pub byte_counts_are : bytecounts ≡ count_of_pieces n
 
 pub twelve-gives : (n : Numbers) (b : Bits) (bitscount offsets bytecounts : ℕ)
-    → twelve_of n b bitscount offsets bytecounts ≡ kept → Agreed n offsets bytecounts
+    → twelve_of n b bitscount offsets bytecounts ≡ kept → Agreed n bitscount offsets bytecounts
 unfolding twelve_of first_of
 twelve-gives n b bitscount offsets bytecounts h =
-    record { offsets_are = grind (arith, common_steps, h); byte_counts_are = grind (arith, common_steps, h) }
+    record { bits_are = grind (arith, common_steps, h); offsets_are = grind (arith, common_steps, h); byte_counts_are = grind (arith, common_steps, h) }
