@@ -6,11 +6,11 @@ use mathlib.Core.List.{List, [], ◌∷◌}
 use native.Mathlib.Nat.{zero-add}
 use native.Mathlib.Omega.{arith}
 use lib.Dec.{eqb, leb, ltb}
-use lib.ListN.{length, get_or}
+use lib.ListN.{length, get_or, get_or-eq_default}
 use borrow.Author.Tests.{eqb-false, ltb-false, leb-true, leb-false, lt-ltb, le-leb, lt-leb, not-false, not-true}
 use Rattle.paper.specs.Bytes.{num, build}
 use Rattle.paper.specs.Outcome.{kept}
-use Rattle.paper.specs.Layout.{odd, dir_len, size_of, typed, bad_value, entry_at, entry_of, start_of, entries, rule4, rule5, rule7}
+use Rattle.paper.specs.Layout.{odd, dir_len, sizes, size_of, typed, bad_value, entry_at, entry_of, start_of, entries, rule4, rule5, rule7}
 use Rattle.paper.specs.Tests.{all}
 use Rattle.paper.specs.Tags.{Line, line, table, named, no, any, has, fits_the_line, misfits, rule10, Held, find, absent, listed, in_table}
 use Rattle.paper.proofs.Loops.{find_entry}
@@ -135,6 +135,11 @@ module _ (big : Bool) (at : ℕ) (dir : List ℕ) (p t k c z : ℕ) (is-t : t �
       let s : o ≡ start_of big at dir p (z * c) = rw (lt-leb (z * c) 4 h) q in
       let s' = s ∙ ap (start_of big at dir p) len_is in
       λ i. record { tag = is-t i; typ = is-k i; count = is_c i; start = s' i; len = len_is i }
+
+-- a type beyond the table has size 0
+pub size-past : (k : ℕ) → 13 ≤ k → size_of k ≡ 0
+unfolding size_of
+size-past k h = get_or-eq_default sizes 0 h
 
 -- ---- rule 10 kept: a present tag of the table is as its line says
 
