@@ -1,6 +1,6 @@
 -- Which pictures share a byte with which lists: what was found of the two directories with their ends is both reading lists, and rules 13 and 14 of a mask
 -- by the three tests that are left. Assumes nothing.
-use Rattle.std.proofs.Common.{◌≡◌, ℕ, ◌*◌, ◌<◌, Bool, true, false, cond, ◌||◌, List, [], ◌∷◌, ◌++◌, map, length, Ok, Err, refl, sym, ap, ap₂, ◌∙◌, arith, lt-ltb}
+use Rattle.std.proofs.Common.{◌≡◌, ℕ, ◌*◌, ◌<◌, Bool, true, false, cond, ◌||◌, List, [], ◌∷◌, ◌++◌, map, length, Ok, Err, refl, sym, ap, ap₂, ◌∙◌, take, zero, suc, arith, lt-ltb}
 use mathlib.Core.Bool.{or-false, or-true}
 use Rattle.outcomes.proofs.Ruled.{found-ruled, broken-ruled}
 use Rattle.paper.specs.Bytes.{run}
@@ -10,6 +10,7 @@ use Rattle.paper.specs.Layout.{dir_len}
 use Rattle.paper.specs.Tags.{Line, table, mask_table, in_table, named}
 use Rattle.paper.specs.Pieces.{part, Piece, shares, full_list, touches, rule13, rule14}
 use Rattle.paper.specs.Judge.{View, pieces_of, directory_of, full_of}
+use Rattle.paper.specs.declared.Entry.{Entry}
 use Rattle.paper.specs.declared.Outcome.{Outcome}
 use Rattle.paper.specs.declared.Outcome.TheVariants.{Kept as kept, Broken as broken}
 use Rattle.paper.specs.declared.Part.{Part}
@@ -59,6 +60,16 @@ low-cons : (p : Part) (ps : List Part) → p.start < 68719476736 → p.len < 687
 unfolding all
 low-cons p ps a b h = and_both (addable p) _ (and_both _ _ (lt-ltb p.start 68719476736 a) (lt-ltb p.len 68719476736 b)) h
 
+-- so are the first of them
+pub low-taken : (es : List Entry) (k : ℕ) → Addable (map value_part es) → Addable (map value_part (take k es))
+unfolding all
+low-taken [] zero h = refl
+low-taken [] (suc k) h = refl
+low-taken (e ∷ es) zero h = refl
+low-taken (e ∷ es) (suc k) h =
+    let b = and-eq (addable (value_part e)) _ h in
+    and_both (addable (value_part e)) _ b.0 (low-taken es k b.1)
+
 module _ {m : ℕ} {p : Picture} (l : Listed m p) where
   end-low : Addable (directory_part p.directory ∷ [])
   unfolding all
@@ -70,13 +81,14 @@ module _ {m : ℕ} {p : Picture} (l : Listed m p) where
   pub own-low : Addable (map value_part p.found.now ++ directory_part p.directory ∷ [])
   own-low = low-append (map value_part p.found.now) _ l.addable end-low
 
-  pub both-low : {n : ℕ} {i : Picture} → Listed n i
-      → Addable (map value_part i.found.now ++ (map value_part p.found.now ++ part 0 8 ∷ directory_part i.directory ∷ directory_part p.directory ∷ []))
-  both-low {i = i} o =
+  -- both, where what was found of either table's tags is any parts that are low
+  pub both-low : {n : ℕ} {i : Picture} → Listed n i → (xs ys : List Part) → Addable xs → Addable ys
+      → Addable (xs ++ (ys ++ part 0 8 ∷ directory_part i.directory ∷ directory_part p.directory ∷ []))
+  both-low {i = i} o xs ys a b =
       let h = o.low in
       let k = o.few in
-      low-append (map value_part i.found.now) _ o.addable
-      (low-append (map value_part p.found.now) _ l.addable
+      low-append xs _ a
+      (low-append ys _ b
       (low-cons (part 0 8) _ (omega arith) (omega arith) (low-cons (directory_part i.directory) _ (omega arith) (omega arith) end-low)))
 
 -- ---- what each step is handed
