@@ -173,3 +173,14 @@ module _ (s n : ℕ) where
             clear-free g.lo g.hi s l ps (ltb-false _ _ o.0) (ltb-false _ _ o.1) (a.clean (ltb-false _ _ o.0));
         clean = λ t. a.clean (ltb-false _ _ t);
       }
+
+  -- and what is known of one that was found
+  pub found-around : (ps : List Part) (g : Gap) → Found s n ps g → Around s n ps g.lo g.hi
+  found-around ps g f =
+      record {
+        low = f.low;
+        high = f.high;
+        clean = λ a. f.clean (le-ltb s g.lo a);
+        held = λ a l b c. f.clash l b c (rw (lt-ltb s g.lo a));
+        reach = λ l b a c. f.clash l b c (rw (lt-ltb g.hi (s + l) a) (or-true (ltb s g.lo)));
+      }

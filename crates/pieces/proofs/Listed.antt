@@ -1,17 +1,28 @@
 -- The gap of a reading list and what it meets, part by part. Assumes nothing.
-use Rattle.std.proofs.Common.{◌≡◌, ℕ, zero, suc, ◌+◌, ◌<◌, ◌≤◌, Bool, true, false, cond, not, ◌&&◌, ◌||◌, eqb, ltb, leb, List, [], ◌∷◌, ◌++◌, length, get_or, refl, sym, ap, ◌∙◌, append-nil, add-one, add-zero, zero-add, fold, arith, ltb-true, ltb-false, le-leb, ne_eqb}
+use Rattle.std.proofs.Common.{◌≡◌, ℕ, zero, suc, ◌+◌, ◌<◌, ◌≤◌, Bool, true, false, cond, not, ◌&&◌, ◌||◌, eqb, ltb, leb, List, [], ◌∷◌, ◌++◌, length, get_or, refl, sym, ap, ◌∙◌, append-nil, add-one, add-zero, zero-add, take, arith, ltb-true, ltb-false, le-leb, ne_eqb}
 use mathlib.Core.Bool.{and_assoc}
+use Rattle.std.proofs.lemmas.List.{take_more, take_all}
 use Rattle.std.proofs.lemmas.Bool.{lt-leb, or_left, or_right, or_from}
 use Rattle.paper.specs.Bytes.{build}
 use Rattle.paper.specs.Tests.{all, some, keep}
 use Rattle.paper.specs.Pieces.{part}
 use Rattle.paper.specs.declared.Part.{Part}
-use Rattle.paper.proofs.Laws.{and-eq, all-at, length-build, get_or-build}
+use Rattle.paper.proofs.Laws.{and-eq, and_both, all-at, length-build, get_or-build}
 use Rattle.pieces.specs.Gaps.{addable, Addable, wide, parts_of, named_at, named_parts, clear, whole, narrowed, Found}
 use Rattle.pieces.specs.Reading.{listed, further_many}
 use Rattle.pieces.specs.declared.Gap.{Gap}
 use Rattle.pieces.specs.declared.listing.Listing.{Listing}
-use Rattle.pieces.proofs.Gaps.{Around, around-none, around-narrowed, found-gap}
+use Rattle.pieces.proofs.Gaps.{Around, around-none, around-narrowed, found-gap, found-around}
+
+-- a list whose first parts are left has such parts
+pub low-cut : (ps : List Part) (k : ℕ) → Addable ps → Addable (take k ps)
+unfolding all
+low-cut [] zero h = refl
+low-cut [] (suc k) h = refl
+low-cut (p ∷ ps) zero h = refl
+low-cut (p ∷ ps) (suc k) h =
+    let b = and-eq (addable p) _ h in
+    and_both (addable p) _ b.0 (low-cut ps k b.1)
 
 -- a part of such a list
 pub part-low : (ps : List Part) (i : ℕ) (d : Part) → Addable ps → i < length ps
@@ -22,18 +33,6 @@ part-low ps i d h l =
     (ltb-true _ _ b.0, ltb-true _ _ b.1)
 
 -- ---- gap: that of the whole file, narrowed by part after part
-
--- the gap with some parts
-abbrev pub narrowed_by : ℕ → Gap → List Part → Gap
-narrowed_by s g ps = fold (narrowed s) g ps
-
-pub narrowed-more : (s : ℕ) (g : Gap) (at : ℕ → Part) (k : ℕ) → narrowed_by s g (build at 0 (k + 1)) ≡ narrowed s (narrowed_by s g (build at 0 k)) (at k)
-unfolding build
-narrowed-more s g at k = rw add-one (go g 0 k ∙ ap (λ (j : ℕ). narrowed s (narrowed_by s g (build at 0 k)) (at j)) (zero-add k))
-  where
-    go : (h : Gap) (i k : ℕ) → narrowed_by s h (build at i (suc k)) ≡ narrowed s (narrowed_by s h (build at i k)) (at (i + k))
-    go h i zero = ap (λ (j : ℕ). narrowed s h (at j)) (sym (add-zero i))
-    go h i (suc k) = go (narrowed s h (at i)) (suc i) k ∙ ap (λ (j : ℕ). narrowed s (narrowed_by s h (build at i (suc k))) (at j)) (omega arith)
 
 -- the parts in the order in which they were seen, and as the list has them
 some-swap : (is : Part → Bool) (qs : List Part) (p : Part) (ps : List Part) → some is (qs ++ p ∷ ps) ≡ is p || some is (qs ++ ps)
@@ -56,39 +55,100 @@ all-swap ok (q ∷ qs) p ps = ap (λ (x : Bool). ok q && x) (all-swap ok qs p ps
     turned false true z = refl
     turned false false z = refl
 
-module _ (s n : ℕ) where
-  around-swap : (qs : List Part) (p : Part) (ps : List Part) (lo hi : ℕ) → Around s n (qs ++ p ∷ ps) lo hi → Around s n (p ∷ (qs ++ ps)) lo hi
-  unfolding some all
-  around-swap qs p ps lo hi a =
-      record {
-        low = a.low;
-        high = a.high;
-        clean = λ l. sym (all-swap _ qs p ps) ∙ a.clean l;
-        held = λ l k b c. sym (some-swap _ qs p ps) ∙ a.held l k b c;
-        reach = λ l b c d. sym (some-swap _ qs p ps) ∙ a.reach l b c d;
-      }
+around-swap : (s n : ℕ) (qs : List Part) (p : Part) (ps : List Part) (lo hi : ℕ) → Around s n (p ∷ (qs ++ ps)) lo hi → Around s n (qs ++ p ∷ ps) lo hi
+unfolding some all
+around-swap s n qs p ps lo hi a =
+    record {
+      low = a.low;
+      high = a.high;
+      clean = λ l. all-swap _ qs p ps ∙ a.clean l;
+      held = λ l k b c. some-swap _ qs p ps ∙ a.held l k b c;
+      reach = λ l b c d. some-swap _ qs p ps ∙ a.reach l b c d;
+    }
 
-  around-all : (ps seen : List Part) (g : Gap) → Around s n seen g.lo g.hi
-      → Around s n (keep wide ps ++ seen) (narrowed_by s g ps).lo (narrowed_by s g ps).hi
+-- one part more
+keep-one : (ps : List Part) (p : Part) (qs : List Part) → keep wide (ps ++ p ∷ []) ++ qs ≡ keep wide ps ++ cond (wide p) (p ∷ qs) qs
+unfolding keep
+keep-one [] p qs = go (wide p)
+  where
+    go : (t : Bool) → cond t (p ∷ []) [] ++ qs ≡ cond t (p ∷ qs) qs
+    go true = refl
+    go false = refl
+keep-one (x ∷ ps) p qs = go (wide x) (keep-one ps p qs)
+  where
+    go : (t : Bool) → keep wide (ps ++ p ∷ []) ++ qs ≡ keep wide ps ++ cond (wide p) (p ∷ qs) qs
+        → cond t (x ∷ keep wide (ps ++ p ∷ [])) (keep wide (ps ++ p ∷ [])) ++ qs ≡ cond t (x ∷ keep wide ps) (keep wide ps) ++ cond (wide p) (p ∷ qs) qs
+    go true h = ap (λ (l : List Part). x ∷ l) h
+    go false h = h
+
+build-more : (at : ℕ → Part) (k : ℕ) → build at 0 (k + 1) ≡ build at 0 k ++ at k ∷ []
+unfolding build
+build-more at k = rw add-one (go 0 k ∙ ap (λ (j : ℕ). build at 0 k ++ at j ∷ []) (zero-add k))
+  where
+    go : (i k : ℕ) → build at i (suc k) ≡ build at i k ++ at (i + k) ∷ []
+    go i zero = ap (λ (j : ℕ). at j ∷ []) (sym (add-zero i))
+    go i (suc k) = ap (λ (l : List Part). at i ∷ l) (go (suc i) k ∙ ap (λ (j : ℕ). build at (suc i) k ++ at j ∷ []) (omega arith))
+
+module _ (s : ℕ) (g : Gap) where
+  -- a gap with these parts more than g: what was found with g is found with them in front of its own parts
+  pub record Narrowed (ps : List Part) (h : Gap) : Type 0 where
+    pub around : (n : ℕ) (qs : List Part) → Found s n qs g → Around s n (keep wide ps ++ qs) h.lo h.hi
+
+  pub narrow_start : Narrowed [] g
   unfolding keep
-  around-all [] seen g a = a
-  around-all (p ∷ ps) seen g a = go (wide p) refl (around-all ps (cond (wide p) (p ∷ seen) seen) (narrowed s g p) (around-narrowed s n p seen g a))
-    where
-      Wide : List Part → Type 0
-      Wide qs = let r : Gap = narrowed_by s g (p ∷ ps) in Around s n qs r.lo r.hi
+  narrow_start = record { around = λ n qs f. found-around s n qs g f }
 
-      go : (t : Bool) → wide p ≡ t → Wide (keep wide ps ++ cond t (p ∷ seen) seen) → Wide (cond t (p ∷ keep wide ps) (keep wide ps) ++ seen)
-      go true e x = around-swap (keep wide ps) p seen _ _ x
-      go false e x = x
+  module _ (ps : List Part) (h : Gap) (seen : Narrowed ps h) where
+    turned : (n : ℕ) (p : Part) (qs : List Part) (t : Bool) (lo hi : ℕ) → Around s n (cond t (p ∷ (keep wide ps ++ qs)) (keep wide ps ++ qs)) lo hi
+        → Around s n (keep wide ps ++ cond t (p ∷ qs) qs) lo hi
+    turned n p qs true lo hi a = around-swap s n (keep wide ps) p qs lo hi a
+    turned n p qs false lo hi a = a
 
-  pub gap-found : 8 ≤ s → (l : Listing) (i : ℕ) → i ≤ further_many l → further_many l ≤ i → (g : Gap)
-      → g ≡ narrowed_by s (narrowed_by s (whole n) l.parts.now) (build (named_at l.big l.further.now) 0 i) → Found s n (listed l) g
-  unfolding listed named_parts parts_of
-  gap-found h l i a b g e =
-      let all-of : i ≡ further_many l = omega arith in
-      let first = around-all l.parts.now [] (whole n) (around-none s n h) in
-      let last = around-all (build (named_at l.big l.further.now) 0 (further_many l)) (keep wide l.parts.now) _ (rw append-nil at first) in
-      rw (e, all-of) (found-gap s n _ _ last)
+    narrow-part : (p : Part) (h' : Gap) → h' ≡ narrowed s h p → Narrowed (ps ++ p ∷ []) h'
+    narrow-part p h' e =
+        record {
+          around = λ n qs f.
+              rw (e, keep-one ps p qs) (turned n p qs (wide p) _ _ (around-narrowed s n p (keep wide ps ++ qs) h (seen.around n qs f)));
+        }
+
+    narrow-all : (n : ℕ) (qs : List Part) → Found s n qs g → Found s n (keep wide ps ++ qs) h
+    narrow-all n qs f = found-gap s n (keep wide ps ++ qs) h (seen.around n qs f)
+
+  -- by the parts of a list
+  pub by_turn : (ps : List Part) (i : ℕ) (d : Part) (h : Gap) → Narrowed (take i ps) h → i < length ps → (h' : Gap)
+      → h' ≡ narrowed s h (get_or ps i d) → Narrowed (take (i + 1) ps) h'
+  by_turn ps i d h seen l h' e = rw (take_more ps i d l) (narrow-part (take i ps) h seen (get_or ps i d) h' e)
+
+  pub by_end : (ps : List Part) (i : ℕ) (h : Gap) → Narrowed (take i ps) h → length ps ≤ i → (n : ℕ) (qs : List Part) → Found s n qs g
+      → Found s n (parts_of ps ++ qs) h
+  unfolding parts_of
+  by_end ps i h seen l n qs f = narrow-all ps h (rw (take_all i ps l) at seen) n qs f
+
+  -- by those that a run of entries names
+  pub narrow-turn : (big : Bool) (f : List ℕ) (k : ℕ) (h : Gap) → Narrowed (build (named_at big f) 0 k) h → (h' : Gap)
+      → h' ≡ narrowed s h (named_at big f k) → Narrowed (build (named_at big f) 0 (k + 1)) h'
+  narrow-turn big f k h seen h' e =
+      rw (build-more (named_at big f) k) (narrow-part (build (named_at big f) 0 k) h seen (named_at big f k) h' e)
+
+  narrow-end : (big : Bool) (f : List ℕ) (k : ℕ) (h : Gap) → Narrowed (build (named_at big f) 0 k) h → (n : ℕ) (qs : List Part) → Found s n qs g
+      → Found s n (named_parts big f k ++ qs) h
+  unfolding named_parts
+  narrow-end big f k h seen = narrow-all (build (named_at big f) 0 k) h seen
+
+-- the gap of a whole file, with the parts of a list alone
+gap-whole : (ps : List Part) (n s : ℕ) → 8 ≤ s → (r : Gap) → ((k : ℕ) (qs : List Part) → Found s k qs (whole n) → Found s k (parts_of ps ++ qs) r)
+    → Found s n (parts_of ps) r
+gap-whole ps n s h r narrowed = rw append-nil at (narrowed n [] (found-gap s n [] (whole n) (around-none s n h)))
+
+-- and with those that its further entries name
+pub gap-found : (s n : ℕ) → 8 ≤ s → (l : Listing) (file first g : Gap) (j i : ℕ) → file ≡ whole n → Narrowed s file (take j l.parts.now) first
+    → length l.parts.now ≤ j → Narrowed s first (build (named_at l.big l.further.now) 0 i) g → i ≤ further_many l → further_many l ≤ i
+    → Found s n (listed l) g
+unfolding listed
+gap-found s n h l file first g j i w a z b low high =
+    let e : i ≡ further_many l = omega arith in
+    narrow-end s first l.big l.further.now (further_many l) g (rw e at b) n (parts_of l.parts.now)
+    (gap-whole l.parts.now n s h first (by_end s (whole n) l.parts.now j first (rw w at a) z))
 
 -- ---- meets: one part after another
 

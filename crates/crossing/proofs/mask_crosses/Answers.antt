@@ -9,11 +9,10 @@ pub listing-list-requires : goal.listing-list-requires
 listing-list-requires c =
     let p = c.requires in
     let i = p.2.addable in
-    let m = p.4.addable in
-    (
+    let m = p.4.addable in (
       p.3.0,
       rw (c.put_parts.ensures, c.put_parts-2.ensures, c.part.ensures, c.part-2.ensures)
-      (both-low p.4 p.2 _ _ (search (rules, i, m, low-taken)) (search (rules, i, m, low-taken))),
+          (both-low p.4 p.2 _ _ (search (rules, i, m, low-taken)) (search (rules, i, m, low-taken))),
     )
 
 pub returns : goal.returns
