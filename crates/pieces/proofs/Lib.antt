@@ -4,3 +4,4 @@ pub mod Listed
 pub mod Spans
 pub mod Passing
 pub mod Eight
+pub mod Each

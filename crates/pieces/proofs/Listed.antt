@@ -191,7 +191,7 @@ unfolding some
 some-none is [] d h = refl
 some-none is (x ∷ xs) d h = or_from (is x) (some is xs) (h 0 (omega arith)) (some-none is xs d (λ i l. h (suc i) (omega (arith, l))))
 
-either-not : (x y : Bool) → not (x && y) ≡ not x || not y
+pub either-not : (x y : Bool) → not (x && y) ≡ not x || not y
 either-not true y = refl
 either-not false y = refl
 
@@ -210,6 +210,30 @@ unfolding all
 all-append ok [] qs = refl
 all-append ok (p ∷ ps) qs = ap (λ (x : Bool). ok p && x) (all-append ok ps qs) ∙ sym (and_assoc (ok p) (all ok ps) (all ok qs))
 
+-- the two halves of a list: what further entries name, and the parts
+module _ (big : Bool) (s : List ℕ) (many : ℕ) (ps : List Part) (low high : ℕ) (met : Bool) (is-met : met ≡ not (all (clear low high) (parts_of ps))) where
+  abbrev Halves : Bool
+  Halves = all (clear low high) (named_parts big s many) && all (clear low high) (parts_of ps)
+
+  halves_are : not Halves ≡ not (all (clear low high) (named_parts big s many ++ parts_of ps))
+  halves_are = sym (ap not (all-append (clear low high) (named_parts big s many) (parts_of ps)))
+
+  list-met : met ≡ true → true ≡ not (all (clear low high) (named_parts big s many ++ parts_of ps))
+  list-met t = go (all (clear low high) (named_parts big s many)) (all (clear low high) (parts_of ps)) (sym is-met ∙ t) ∙ halves_are
+    where
+      go : (x y : Bool) → not y ≡ true → true ≡ not (x && y)
+      go true y h = sym h
+      go false y h = refl
+
+  list-named : met ≡ false → (r : Bool) → r ≡ not (all (clear low high) (named_parts big s many))
+      → r ≡ not (all (clear low high) (named_parts big s many ++ parts_of ps))
+  list-named t r e = e ∙ go (all (clear low high) (named_parts big s many)) (all (clear low high) (parts_of ps)) (sym is-met ∙ t) ∙ halves_are
+    where
+      go : (x y : Bool) → not y ≡ false → not x ≡ not (x && y)
+      go true true h = refl
+      go true false h = sym h
+      go false y h = refl
+
 module _ (l : Listing) (low high : ℕ) where
   abbrev Named : List Part
   Named = build (named_at l.big l.further.now) 0 (further_many l)
@@ -223,24 +247,35 @@ module _ (l : Listing) (low high : ℕ) where
   abbrev None : Part
   None = part 0 0
 
+  parts-met : Met l.parts.now ≡ not (all (clear low high) (parts_of l.parts.now))
+  unfolding parts_of
+  parts-met = sym (kept-met low high l.parts.now)
+
+  named-met : Met Named ≡ not (all (clear low high) (named_parts l.big l.further.now (further_many l)))
+  unfolding named_parts
+  named-met = sym (kept-met low high Named)
+
   meets-is : Meets ≡ Met Named || Met l.parts.now
-  unfolding listed named_parts parts_of
+  unfolding listed
   meets-is =
-      ap not (all-append (clear low high) (keep wide Named) (keep wide l.parts.now)) ∙ either-not _ _
-      ∙ (λ i. kept-met low high Named i || kept-met low high l.parts.now i)
+      ap not (all-append (clear low high) (named_parts l.big l.further.now (further_many l)) (parts_of l.parts.now)) ∙ either-not _ _
+      ∙ (λ i. sym named-met i || sym parts-met i)
 
   named-is : (k : ℕ) → k < further_many l → met low high (get_or Named k None) ≡ met low high (named_at l.big l.further.now k)
   named-is k h = ap (met low high) (get_or-build (named_at l.big l.further.now) None 0 (further_many l) k h ∙ ap (named_at l.big l.further.now) (zero-add k))
 
   pub meets_part : (k : ℕ) → k < length l.parts.now → met low high (get_or l.parts.now k None) ≡ true → true ≡ Meets
-  meets_part k h e = sym (meets-is ∙ or_right _ _ (some-at (met low high) l.parts.now k None h e))
+  unfolding listed
+  meets_part k h e =
+      list-met l.big l.further.now (further_many l) l.parts.now low high (Met l.parts.now) parts-met (some-at (met low high) l.parts.now k None h e)
 
   pub meets_named : (k : ℕ) → k < further_many l → met low high (named_at l.big l.further.now k) ≡ true → true ≡ Meets
   meets_named k h e = sym (meets-is ∙ or_left _ _ (some-at (met low high) Named k None (rw length-build h) (named-is k h ∙ e)))
 
   pub meets_none : ((k : ℕ) → k < length l.parts.now → met low high (get_or l.parts.now k None) ≡ false)
       → ((k : ℕ) → k < further_many l → met low high (named_at l.big l.further.now k) ≡ false) → false ≡ Meets
+  unfolding listed
   meets_none h e =
-      sym (meets-is ∙ or_from _ _
-      (some-none (met low high) Named None (λ k q. let r : k < further_many l = rw length-build at q in named-is k r ∙ e k r))
-      (some-none (met low high) l.parts.now None h))
+      sym (some-none (met low high) Named None (λ k q. let r : k < further_many l = rw length-build at q in named-is k r ∙ e k r))
+      ∙ list-named l.big l.further.now (further_many l) l.parts.now low high (Met l.parts.now) parts-met (some-none (met low high) l.parts.now None h)
+      (Met Named) named-met

@@ -29,7 +29,7 @@ use Rattle.pieces.proofs.Gaps.{clear-free}
 use Rattle.pieces.proofs.Spans.{span-apart}
 
 -- a place that counts its bytes has some
-some_bytes : (x : ℕ) → eqb x 0 ≡ false → 0 < x
+pub some_bytes : (x : ℕ) → eqb x 0 ≡ false → 0 < x
 some_bytes zero h = absurd (eqb-false 0 0 h refl)
 some_bytes (suc x) h = suc-le-suc zero-le
 
@@ -90,12 +90,12 @@ module _ (p : Places) where
   abbrev From : ℕ → List Piece
   From i = pieces_from p i
 
-  from_start : All ≡ From 0
+  pub from_start : All ≡ From 0
   unfolding pieces_in pieces_from places_of
   from_start = ap (build (place_at p.big (width p.offsets.wide) p.offsets.bytes.now (width p.bytecounts.wide) p.bytecounts.bytes.now) 0) (sym (sub-zero p.many))
 
   -- no place is left
-  from_end : (i : ℕ) → p.many ≤ i → From i ≡ []
+  pub from_end : (i : ℕ) → p.many ≤ i → From i ≡ []
   unfolding pieces_from build
   from_end i m = let e : p.many - i ≡ 0 = omega arith in rw e
 
