@@ -1,11 +1,11 @@
 -- This page states that the eight calls of a search are one fact with the answers of three tests in it: what holds of places whose widths and byte order are
--- told by constants holds of those that have them. Assumes nothing.
-use Rattle.std.proofs.Common.{◌≡◌, ℕ, ◌*◌, ◌≤◌, Bool, true, false, sym, ap, refl, ◌∙◌}
+-- told by constants holds of those that have them. By it `skip` is proved. Assumes nothing.
+use Rattle.std.proofs.Common.{◌≡◌, ℕ, ◌*◌, ◌≤◌, Bool, true, false, length, sym, ap, refl, ◌∙◌}
 use Rattle.std.specs.Prelude.{Option, Some, None, IfSome}
 use Rattle.order.specs.Width.{width}
 use Rattle.paper.specs.Pieces.{rule13, rule14}
 use Rattle.pieces.specs.Gaps.{out}
-use Rattle.pieces.specs.Reading.{place_in, pieces_from, body, Fetched, left, Reached}
+use Rattle.pieces.specs.Reading.{Room, told, place_in, pieces_from, body, Fetched, left, Reached}
 use Rattle.pieces.specs.Spans.{span_from}
 use Rattle.pieces.specs.declared.Gap.{Gap}
 use Rattle.pieces.specs.declared.Span.{Span}
@@ -56,3 +56,19 @@ module _ (p q : Places) (t : ToldAs p q) where
     -- and without one
     pub skipped-as : (given : Span) (r : Reach) → Reached q false from g given r → Reached p false from g given r
     skipped-as given r = reached-as false given r
+
+-- ---- a call with constants: the runs have room for numbers of widths that are their own, and what it finds of the places as it is told them holds of them
+
+module _ (p : Places) (big w v : Bool) (is-w : p.offsets.wide ≡ w) (is-v : p.bytecounts.wide ≡ v) where
+  pub room-told : Room p w v
+  room-told =
+      (room_as p.offsets.wide w p.many (length p.offsets.bytes.now) is-w p.offsets_room, room_as p.bytecounts.wide v p.many (length p.bytecounts.bytes.now) is-v p.byte_counts_room)
+
+  told-as : p.big ≡ big → ToldAs p (told p big w v room-told)
+  told-as is-big =
+      record { offsets = refl; bytecounts = refl; many = refl; big = is-big; wideoffsets = is-w; widebytecounts = is-v }
+
+  pub called-as : p.big ≡ big → (spanned : Bool) (from : ℕ) (g : Gap) (given : Span) (r : Reach)
+      → ((room : Room p w v) → Reached (told p big w v room) spanned from g given r) → Reached p spanned from g given r
+  called-as is-big spanned from g given r found =
+      reached-as p (told p big w v room-told) (told-as is-big) from g spanned given r (found room-told)

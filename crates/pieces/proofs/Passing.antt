@@ -156,6 +156,9 @@ module _ (p : Places) where
       pub fourteen : (ps : List Part) → (g.lo < g.hi → all (clear g.lo g.hi) ps ≡ true) → rule14 ps (From from) ≡ rule14 ps (From i)
       pub wider : spanned ≡ true → span_from given (From from) ≡ span_from span (From i)
 
+    pub passed-start : Passed from given
+    passed-start = record { low = omega arith; thirteen = λ n l h. refl; fourteen = λ ps h. refl; wider = λ t. refl }
+
     module _ (i : ℕ) (span : Span) (q : Passed i span) where
       pub passed-end : p.many ≤ i → Reached p spanned from g given (record { stop = None; span = span })
       passed-end m =
@@ -166,6 +169,10 @@ module _ (p : Places) where
             fourteen = λ ps h. q.fourteen ps h ∙ ap (rule14 ps) e;
             wider = λ t. q.wider t ∙ ap (span_from span) e;
           }
+
+      pub passed-stop : (x : Place) → Fetched p (record { at = i; place = x }) → out g (body x) ≡ true
+          → Reached p spanned from g given (record { stop = Some (record { at = i; place = x }); span = span })
+      passed-stop x f o = record { stop = (q.low, f, o); thirteen = q.thirteen; fourteen = q.fourteen; wider = q.wider }
 
       module _ (x : Place) (f : Fetched p (record { at = i; place = x })) (o : Bool) (is-o : o ≡ out g (body x)) where
         pub passed-turn : o ≡ false → (w : Span) → w ≡ cond spanned (widened span (body x)) span → Passed (i + 1) w

@@ -23,6 +23,24 @@ pieces_in p = places_of p.big (width p.offsets.wide) p.offsets.bytes.now (width 
 unfoldable pub pieces_from : Places → ℕ → List Piece
 pieces_from p i = build (place_at p.big (width p.offsets.wide) p.offsets.bytes.now (width p.bytecounts.wide) p.bytecounts.bytes.now) i (p.many - i)
 
+-- the runs have room for so many numbers of those widths
+abbrev pub Room : Places → Bool → Bool → Type 0
+Room p wideoffsets widebytecounts =
+    (width wideoffsets * p.many ≤ length p.offsets.bytes.now) × (width widebytecounts * p.many ≤ length p.bytecounts.bytes.now)
+
+-- the places of the same runs, with the byte order and the widths that are told
+abbrev pub told : (p : Places) (big wideoffsets widebytecounts : Bool) → Room p wideoffsets widebytecounts → Places
+told p big wideoffsets widebytecounts room =
+    record {
+      offsets = record { bytes = p.offsets.bytes; wide = wideoffsets };
+      bytecounts = record { bytes = p.bytecounts.bytes; wide = widebytecounts };
+      big = big;
+      many = p.many;
+      few = p.few;
+      offsets_room = room.0;
+      byte_counts_room = room.1;
+    }
+
 -- place i
 abbrev pub place_in : Places → ℕ → Part
 place_in p i = part (num p.big (width p.offsets.wide) p.offsets.bytes.now (width p.offsets.wide * i)) (num p.big (width p.bytecounts.wide) p.bytecounts.bytes.now (width p.bytecounts.wide * i))

@@ -61,12 +61,12 @@ fn is_out(g: Gap, p: Place) -> bool
 
 impl<'a> Places<'a> {
     ghost use Rattle.std.specs.Prelude.{◌≡◌};
-    ghost use Rattle.pieces.specs.Reading.{Fetched, Opened, Reached};
+    ghost use Rattle.pieces.specs.Reading.{Room, told, Fetched, Opened, Reached};
 
-    // Place i. The byte order and the widths of the runs are said once more, so that a loop can have them as constants.
+    // Place i, in a byte order and with widths that are told, so that a loop can have them as constants.
     fn fetch(&self, big: bool, wideoffsets: bool, widebytecounts: bool, i: usize) -> Place
-        requires { (big ≡ self.now.big) × (wideoffsets ≡ self.now.offsets.wide) × (widebytecounts ≡ self.now.bytecounts.wide) × (i < self.now.many) }
-        ensures { Fetched self.now (record { at = i; place = result }) }
+        requires { Room self.now wideoffsets widebytecounts × (i < self.now.many) }
+        ensures { (room : Room self.now wideoffsets widebytecounts) → Fetched (told self.now big wideoffsets widebytecounts room) (record { at = i; place = result }) }
     {
         Place {
             start: order::element(self.offsets.bytes, big, wideoffsets, i),
@@ -91,8 +91,8 @@ impl<'a> Places<'a> {
         }
     }
 
-    // The first place from `from` on that has no bytes or does not lie in the gap, and the span widened by the places before it, where one is asked for.
-    // It is never inlined, so that its loop has the registers to itself.
+    // The first place from `from` on that has no bytes or does not lie in the gap, and the span widened by the places before it, where one is asked for:
+    // of the places as the constants tell them. It is never inlined, so that its loop has the registers to itself.
     #[inline(never)]
     fn search<
         const BIG: bool,
@@ -100,8 +100,8 @@ impl<'a> Places<'a> {
         const WIDEBYTECOUNTS: bool,
         const SPANNED: bool,
     >(&self, from: usize, gap: Gap, span: Span) -> Reach
-        requires { (BIG ≡ self.now.big) × (WIDEOFFSETS ≡ self.now.offsets.wide) × (WIDEBYTECOUNTS ≡ self.now.bytecounts.wide) }
-        ensures { Reached self.now SPANNED from gap span result }
+        requires { Room self.now WIDEOFFSETS WIDEBYTECOUNTS }
+        ensures { (room : Room self.now WIDEOFFSETS WIDEBYTECOUNTS) → Reached (told self.now BIG WIDEOFFSETS WIDEBYTECOUNTS room) SPANNED from gap span result }
     {
         let mut span = span;
         for i in from..self.many {

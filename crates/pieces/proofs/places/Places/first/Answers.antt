@@ -7,4 +7,6 @@ pub returns-then-self-eq0 : goal.returns-then-self-eq0
 returns-then-self-eq0 c = search (rules, opened-none)
 
 pub returns : goal.returns
-returns c = search (rules, opened-some)
+returns c =
+    let p = c.args.self.now in
+    opened-some _ _ (c.fetch-place.ensures (p.offsets_room, p.byte_counts_room)) _ c.of.ensures
