@@ -130,13 +130,13 @@ module _ (s : ℕ) (g : Gap) where
   narrow-turn big f k h seen h' e =
       rw (build-more (named_at big f) k) (narrow-part (build (named_at big f) 0 k) h seen (named_at big f k) h' e)
 
-  narrow-end : (big : Bool) (f : List ℕ) (k : ℕ) (h : Gap) → Narrowed (build (named_at big f) 0 k) h → (n : ℕ) (qs : List Part) → Found s n qs g
+  pub narrow-end : (big : Bool) (f : List ℕ) (k : ℕ) (h : Gap) → Narrowed (build (named_at big f) 0 k) h → (n : ℕ) (qs : List Part) → Found s n qs g
       → Found s n (named_parts big f k ++ qs) h
   unfolding named_parts
   narrow-end big f k h seen = narrow-all (build (named_at big f) 0 k) h seen
 
 -- the gap of a whole file, with the parts of a list alone
-gap-whole : (ps : List Part) (n s : ℕ) → 8 ≤ s → (r : Gap) → ((k : ℕ) (qs : List Part) → Found s k qs (whole n) → Found s k (parts_of ps ++ qs) r)
+pub gap-whole : (ps : List Part) (n s : ℕ) → 8 ≤ s → (r : Gap) → ((k : ℕ) (qs : List Part) → Found s k qs (whole n) → Found s k (parts_of ps ++ qs) r)
     → Found s n (parts_of ps) r
 gap-whole ps n s h r narrowed = rw append-nil at (narrowed n [] (found-gap s n [] (whole n) (around-none s n h)))
 
@@ -218,14 +218,14 @@ module _ (big : Bool) (s : List ℕ) (many : ℕ) (ps : List Part) (low high : �
   halves_are : not Halves ≡ not (all (clear low high) (named_parts big s many ++ parts_of ps))
   halves_are = sym (ap not (all-append (clear low high) (named_parts big s many) (parts_of ps)))
 
-  list-met : met ≡ true → true ≡ not (all (clear low high) (named_parts big s many ++ parts_of ps))
+  pub list-met : met ≡ true → true ≡ not (all (clear low high) (named_parts big s many ++ parts_of ps))
   list-met t = go (all (clear low high) (named_parts big s many)) (all (clear low high) (parts_of ps)) (sym is-met ∙ t) ∙ halves_are
     where
       go : (x y : Bool) → not y ≡ true → true ≡ not (x && y)
       go true y h = sym h
       go false y h = refl
 
-  list-named : met ≡ false → (r : Bool) → r ≡ not (all (clear low high) (named_parts big s many))
+  pub list-named : met ≡ false → (r : Bool) → r ≡ not (all (clear low high) (named_parts big s many))
       → r ≡ not (all (clear low high) (named_parts big s many ++ parts_of ps))
   list-named t r e = e ∙ go (all (clear low high) (named_parts big s many)) (all (clear low high) (parts_of ps)) (sym is-met ∙ t) ∙ halves_are
     where
