@@ -1,6 +1,7 @@
 -- `mask_crosses` hands both lists over: what the further entries name, what was found of the image's tags and of the mask's, the head and the two
 -- directories. Assumes nothing.
 use Rattle.std.proofs.Common.{refl, rules}
+use Rattle.crossing.specs.Pictures.{places_in}
 use Rattle.crossing.proofs.Apart.{both-low, low-taken}
 use Rattle.crossing.proofs.Both.{both-listed}
 use Rattle.crossing.proofs.mask_crosses.Goals as goal
@@ -17,5 +18,7 @@ listing-list-requires c =
 
 pub returns : goal.returns
 returns c =
-    both-listed _ _ _ _ _ refl _ c.listing-list.ensures (rw (c.put_parts.ensures, c.put_parts-2.ensures, c.part.ensures, c.part-2.ensures))
-    (rw c.places.ensures at c.clashes_all.ensures)
+    let a = c.args in
+    let tried = rw (c.put_parts.ensures, c.put_parts-2.ensures, c.part.ensures, c.part-2.ensures) at c.listing-list.ensures in
+    let clash = rw c.places.ensures at c.clashes_all.ensures in
+    search (rules, both-listed a.file.now a.image.now a.mask.now a.further (places_in a.file.now a.mask.now) refl _ tried, clash)
