@@ -1,6 +1,7 @@
 -- Which pictures share a byte with which lists: what was found of the two directories with their ends is both reading lists, and rules 13 and 14 of a mask
 -- by the three tests that are left. Assumes nothing.
-use Rattle.std.proofs.Common.{◌≡◌, ℕ, ◌*◌, ◌<◌, Bool, true, false, cond, ◌||◌, List, [], ◌∷◌, ◌++◌, map, length, Ok, Err, refl, sym, ap, ap₂, ◌∙◌, take, zero, suc, arith, lt-ltb}
+use Rattle.std.proofs.Common.{◌≡◌, ℕ, ◌*◌, ◌<◌, Bool, true, false, cond, ◌||◌, List, [], ◌∷◌, ◌++◌, map, length, Ok, Err, refl, sym, ap, ap₂, ◌∙◌, take, arith, lt-ltb}
+use Rattle.std.proofs.lemmas.List.{take-map}
 use mathlib.Core.Bool.{or-false, or-true}
 use Rattle.outcomes.proofs.Ruled.{found-ruled, broken-ruled}
 use Rattle.paper.specs.Bytes.{run}
@@ -29,6 +30,7 @@ use Rattle.tags.proofs.Answers.{later-holds}
 use Rattle.pieces.specs.Gaps.{addable, Addable, wide, parts_of, named_parts}
 use Rattle.pieces.specs.Spans.{span_of, within_of}
 use Rattle.pieces.specs.declared.Span.{Span}
+use Rattle.pieces.proofs.Listed.{low-cut}
 use Rattle.pieces.proofs.Passing.{fourteen-is}
 use Rattle.mask.specs.Masking.{numbered}
 use Rattle.image.proofs.Listed.{some_or, keep_append, list-with, list-without}
@@ -60,15 +62,9 @@ low-cons : (p : Part) (ps : List Part) → p.start < 68719476736 → p.len < 687
 unfolding all
 low-cons p ps a b h = and_both (addable p) _ (and_both _ _ (lt-ltb p.start 68719476736 a) (lt-ltb p.len 68719476736 b)) h
 
--- so are the first of them
+-- so are the first of what was found
 pub low-taken : (es : List Entry) (k : ℕ) → Addable (map value_part es) → Addable (map value_part (take k es))
-unfolding all
-low-taken [] zero h = refl
-low-taken [] (suc k) h = refl
-low-taken (e ∷ es) zero h = refl
-low-taken (e ∷ es) (suc k) h =
-    let b = and-eq (addable (value_part e)) _ h in
-    and_both (addable (value_part e)) _ b.0 (low-taken es k b.1)
+low-taken es k h = rw take-map at (low-cut (map value_part es) k h)
 
 module _ {m : ℕ} {p : Picture} (l : Listed m p) where
   end-low : Addable (directory_part p.directory ∷ [])

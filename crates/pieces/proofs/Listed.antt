@@ -14,7 +14,7 @@ use Rattle.pieces.specs.declared.Gap.{Gap}
 use Rattle.pieces.specs.declared.listing.Listing.{Listing}
 use Rattle.pieces.proofs.Gaps.{Around, around-none, around-narrowed, found-gap, found-around}
 
--- a list whose first parts are left has such parts
+-- the first parts of a list whose sums all fit are such a list
 pub low-cut : (ps : List Part) (k : ℕ) → Addable ps → Addable (take k ps)
 unfolding all
 low-cut [] zero h = refl
