@@ -17,7 +17,7 @@ use Rattle.paper.proofs.Keeps.{rule15-kept, rule17-kept}
 use Rattle.tags.specs.Index
 use Rattle.tags.specs.Slots.{tag_at, line_at}
 use Rattle.keys.specs.Pass.{runs}
-use Rattle.image.specs.Imaging.{image_in, tag_part}
+use Rattle.image.specs.Imaging.{lasting_in, tag_part}
 use Rattle.judge.specs.Examining.{examined_in, examined_of}
 use Rattle.judge.specs.declared.Examined.{Examined}
 use Rattle.paper.specs.declared.Verdict.{Verdict}
@@ -67,21 +67,21 @@ module _ (f : List ℕ) (zero : (verdict_of f).number ≡ 0) where
   characters = stands f zero Index.characters (lit< tt)
 
   pub directory_in : (examined_in f).image.directory.start + (examined_in f).image.directory.len ≤ length f
-  unfolding examined_in image_in tag_part
+  unfolding examined_in lasting_in tag_part
   directory_in = directory.within
 
   pub doubles_in : (examined_in f).image.doubles.start + (examined_in f).image.doubles.len ≤ length f
-  unfolding examined_in image_in tag_part
+  unfolding examined_in lasting_in tag_part
   doubles_in = doubles.within
 
   pub characters_in : (examined_in f).image.characters.start + (examined_in f).image.characters.len ≤ length f
-  unfolding examined_in image_in tag_part
+  unfolding examined_in lasting_in tag_part
   characters_in = characters.within
 
   pub runs_are : runs (examined_in f).image.big (part_of f (examined_in f).image.directory) (part_of f (examined_in f).image.doubles)
       (part_of f (examined_in f).image.characters)
       ≡ runs_of (view f)
-  unfolding examined_in image_in runs_of tag_part
+  unfolding examined_in lasting_in runs_of tag_part
   runs_are = λ i. runs (view f).head.big (directory.bytes i) (doubles.bytes i) (characters.bytes i)
 
   pub header_kept : (key_count (runs_of (view f)) ≤ 256) × (8 + 8 * key_count (runs_of (view f)) ≤ length (runs_of (view f)).directory)

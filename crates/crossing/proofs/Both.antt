@@ -25,7 +25,7 @@ abbrev pub parts_mask : Picture → List Part
 parts_mask p = map value_part p.found.now ++ directory_part p.directory ∷ []
 
 -- any list that is what further entries name and these parts
-both-told : (f : List ℕ) (i p : Picture) (r : Further) (ss : List Piece) {later : List ℕ} → later ≡ run f r.start (12 * r.many) → {x : Bool}
+pub both-told : (f : List ℕ) (i p : Picture) (r : Further) (ss : List Piece) {later : List ℕ} → later ≡ run f r.start (12 * r.many) → {x : Bool}
     → x ≡ some (touches (named_parts i.directory.big later r.many ++ parts_of (parts_both i p))) ss → x ≡ some (touches (both_lists f i r p)) ss
 unfolding both_lists
 both-told f i p r ss is h = rw is at h

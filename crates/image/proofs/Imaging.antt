@@ -38,7 +38,7 @@ use Rattle.tags.specs.Index
 use Rattle.tags.specs.Tagging.{view_of, tagged_of}
 use Rattle.tags.specs.declared.Pictured.{Pictured}
 use Rattle.tags.proofs.Accepted.{view_is, Told, told, Accepted, accepted}
-use Rattle.image.specs.Imaging.{tag_part, text_part, next_of, image_in, imaged_in, image_of}
+use Rattle.image.specs.Imaging.{tag_part, text_part, next_of, lasting_in, image_in, image_of}
 use Rattle.image.specs.declared.Next.{Next}
 use Rattle.image.specs.Stages.{present_part, Passed, pieces_judged, placed_in}
 use Rattle.pieces.specs.Spans.{span_of}
@@ -55,28 +55,28 @@ module _ (v : View) (next : ℕ) where
   unfolding picture_stage picture_rules table_rules pieces_judged all
   stage_is = first-append (table_rules v) (piece_rules (full_of v) v) refl
 
-  pub table-refuses : (e : Verdict) → Err e ≡ tagged_of v → Err e ≡ ruled (picture_stage v) (imaged_in v next)
+  pub table-refuses : (e : Verdict) → Err e ≡ tagged_of v → Err e ≡ ruled (picture_stage v) (image_in v next)
   unfolding tagged_of
   table-refuses e h =
-      first-refuses (first (table_rules v)) (pieces_judged v) _ (imaged_in v next) e h ∙ ap (λ (w : Verdict). ruled w (imaged_in v next)) (sym stage_is)
+      first-refuses (first (table_rules v)) (pieces_judged v) _ (image_in v next) e h ∙ ap (λ (w : Verdict). ruled w (image_in v next)) (sym stage_is)
 
   module _ {p : Pictured} (is : Ok p ≡ tagged_of v) where
-    to-pieces : ruled (picture_stage v) (imaged_in v next) ≡ ruled (pieces_judged v) (imaged_in v next)
+    to-pieces : ruled (picture_stage v) (image_in v next) ≡ ruled (pieces_judged v) (image_in v next)
     unfolding tagged_of
     to-pieces =
-        ap (λ (w : Verdict). ruled w (imaged_in v next)) stage_is ∙ first-kept (first (table_rules v)) (pieces_judged v) _ p (imaged_in v next) is
+        ap (λ (w : Verdict). ruled w (image_in v next)) stage_is ∙ first-kept (first (table_rules v)) (pieces_judged v) _ p (image_in v next) is
 
-    pub pieces-refuse : (spanned : Bool) (e : Verdict) → Err e ≡ placed_in spanned v → Err e ≡ ruled (picture_stage v) (imaged_in v next)
+    pub pieces-refuse : (spanned : Bool) (e : Verdict) → Err e ≡ placed_in spanned v → Err e ≡ ruled (picture_stage v) (image_in v next)
     unfolding placed_in
-    pieces-refuse spanned e h = other-refuses (pieces_judged v) _ (imaged_in v next) e h ∙ sym to-pieces
+    pieces-refuse spanned e h = other-refuses (pieces_judged v) _ (image_in v next) e h ∙ sym to-pieces
 
     module _ (spanned : Bool) {span : Option Span} (so : Ok span ≡ placed_in spanned v) where
       placed : ((pieces_judged v).number ≡ 0) × (span ≡ cond spanned (Some (span_of (pieces_of v))) None)
       unfolding placed_in
       placed = found-ruled (pieces_judged v) _ span so
 
-      found-all : Ok (imaged_in v next) ≡ ruled (picture_stage v) (imaged_in v next)
-      found-all = sym (to-pieces ∙ kept-ruled (pieces_judged v) (imaged_in v next) placed.0)
+      found-all : Ok (image_in v next) ≡ ruled (picture_stage v) (image_in v next)
+      found-all = sym (to-pieces ∙ kept-ruled (pieces_judged v) (image_in v next) placed.0)
 
       -- the span, which is asked for where the next offset is not 0
       next-told : spanned ≡ not (eqb next 0) → option_map (λ (s : Span). next_at next s) span ≡ next_of v next
@@ -124,8 +124,8 @@ module _ {f : List ℕ} {big : Bool} {at c : ℕ} {found : List Entry} {r : Furt
         tiepoint = value_part (at_slot found Index.tiepoint);
         matrix = value_part (at_slot found Index.matrix);
       })
-      ≡ ruled (picture_stage (view_of table f big at c)) (imaged_in (view_of table f big at c) next)
-  unfolding imaged_in image_in view_of held_at
+      ≡ ruled (picture_stage (view_of table f big at c)) (image_in (view_of table f big at c) next)
+  unfolding image_in lasting_in view_of held_at
   image-good next spanned {span} so asked =
       let nx = next-told (view_of table f big at c) next is spanned so asked in
       let d = part-is Tag.key_directory Index.key_directory known.directory in
@@ -194,7 +194,7 @@ module _ {f : List ℕ} {big : Bool} {at c : ℕ} (o : LaidAt f big at c) where
     scan-bad e h = let r = scan-refuses o so (picture_stage (view f)) h in refused-whole f e r.is r.some
 
     module _ {x : Unit {0}} (good : s.judged ≡ Ok x) where
-      pub scan_good : ruled (picture_stage (view_of table f big at c)) (imaged_in (view_of table f big at c) s.next) ≡ image_of f
+      pub scan_good : ruled (picture_stage (view_of table f big at c)) (image_in (view_of table f big at c) s.next) ≡ image_of f
       unfolding image_of image_stage
       scan_good =
           let w : image_stage f ≡ picture_stage (view f) = scan-keeps o so (picture_stage (view f)) good in

@@ -26,8 +26,9 @@ text_part t hs = cond (has t hs) (Some (tag_part t hs)) None
 unfoldable pub next_of : View → ℕ → Option Next
 next_of v next = cond (eqb next 0) None (Some (record { offset = next; span = span_of (pieces_of v) }))
 
-unfoldable pub image_in : View → ℕ → Image
-image_in v next =
+-- what is told to the end
+unfoldable pub lasting_in : View → ℕ → Image
+lasting_in v next =
     record {
       big = v.head.big;
       size = record { width = value_of v.head.big Tag.width v.held; length = value_of v.head.big Tag.length v.held };
@@ -40,11 +41,11 @@ image_in v next =
       further = further_of v.head.at (map (λ h. h.entry) v.held);
     }
 
--- with what the survey alone asks for
-unfoldable pub imaged_in : View → ℕ → Imaged
-imaged_in v next =
+-- and with what the survey alone asks for, all that these rules find
+unfoldable pub image_in : View → ℕ → Imaged
+image_in v next =
     record {
-      image = image_in v next;
+      image = lasting_in v next;
       scale = tag_part Tag.scale v.held;
       tiepoint = tag_part Tag.tiepoint v.held;
       matrix = tag_part Tag.matrix v.held;
@@ -52,4 +53,4 @@ imaged_in v next =
 
 -- or the first broken rule
 unfoldable pub image_of : List ℕ → Result Imaged Verdict
-image_of f = ruled (image_stage f) (imaged_in (view f) (next_in f (head_in f)))
+image_of f = ruled (image_stage f) (image_in (view f) (next_in f (head_in f)))

@@ -13,7 +13,7 @@ ghost use Rattle.pieces.specs.Gaps.{Addable, parts_of, named_parts};
 ghost use Rattle.pieces.specs.Reading.{pieces_in, listed};
 ghost use Rattle.tags.specs.Index.{many};
 ghost use Rattle.tags.specs.Tagging.{view_of};
-ghost use Rattle.image.specs.Imaging.{imaged_in, image_of};
+ghost use Rattle.image.specs.Imaging.{image_in, image_of};
 ghost use Rattle.image.specs.Naming.{Standing, named_pieces};
 ghost use Rattle.image.specs.Stages.{present_part, Passed, Fits, placed_in, outer_of};
 
@@ -160,7 +160,7 @@ fn image_found(
     further: Further,
 ) -> Result<Imaged, Verdict>
     requires { Passed file.now d.big d.at d.count found.now further }
-    ensures { result ≡ ruled (picture_stage (view_of table file.now d.big d.at d.count)) (imaged_in (view_of table file.now d.big d.at d.count) next) }
+    ensures { result ≡ ruled (picture_stage (view_of table file.now d.big d.at d.count)) (image_in (view_of table file.now d.big d.at d.count) next) }
 {
     let picture = tags::judge_tags(file, d, found, further)?;
     let span = judge_pieces(file, d, picture, found, further, next != 0)?;

@@ -17,6 +17,7 @@ use Rattle.paper.specs.Outcome.{verdict, first}
 use Rattle.paper.specs.Judge.{view, view_at, head_in, next_in, pieces_of, runs_of, survey_of, survey_rules, image_stage, survey_stage, file_stage, mask_stage, verdict_of}
 use Rattle.paper.specs.Judge.{has_mask, mask_verdict, rule28}
 use Rattle.paper.specs.declared.Verdict.{Verdict}
+use Rattle.paper.proofs.First.{chain-both}
 use Rattle.pieces.specs.Spans.{span_of}
 use Rattle.outcomes.specs.Ruled.{ruled}
 use Rattle.outcomes.proofs.Ruled.{first-refuses, first-kept, found-ruled, kept-ruled, other-refuses}
@@ -24,7 +25,7 @@ use Rattle.tags.specs.Index
 use Rattle.tags.specs.Slots.{line_at, tag_at}
 use Rattle.keys.specs.Pass.{runs}
 use Rattle.ground.specs.Answer.{Sized}
-use Rattle.image.specs.Imaging.{tag_part, next_of, image_in, imaged_in, image_of}
+use Rattle.image.specs.Imaging.{tag_part, next_of, lasting_in, image_in, image_of}
 use Rattle.image.specs.declared.Image.{Image}
 use Rattle.image.specs.declared.Imaged.{Imaged}
 use Rattle.image.specs.declared.Next.{Next}
@@ -32,7 +33,7 @@ use Rattle.mask.specs.Masking.{numbered}
 use Rattle.second.specs.Before.{Before}
 use Rattle.survey.specs.Surveying.{surveyed_of, survey_found}
 use Rattle.survey.specs.declared.Surveyed.{Surveyed}
-use Rattle.judge.specs.Examining.{own_image, examined_in, examined_of, own_of}
+use Rattle.judge.specs.Examining.{own_image, lasting_image, examined_in, examined_of, own_of}
 use Rattle.judge.specs.declared.Examined.{Examined}
 use Rattle.image.proofs.Seen.{Stands, image-stands}
 use Rattle.judge.proofs.Seen.{sized}
@@ -56,7 +57,7 @@ module _ (f : List ℕ) {i : Imaged} (is : Ok i ≡ image_of f) where
   unfolding image_of
   image-zero = (found-ruled (image_stage f) _ i is).0
 
-  here : i ≡ imaged_in (view f) (next_in f (head_in f))
+  here : i ≡ own_image f
   unfolding image_of
   here = (found-ruled (image_stage f) _ i is).1
 
@@ -67,27 +68,27 @@ module _ (f : List ℕ) {i : Imaged} (is : Ok i ≡ image_of f) where
       subst (λ (q : Part). Names f q (bytes_of (tag_at k) (view f).held)) (sym e) (record { within = s.within; bytes_are = s.bytes })
 
   pub directory-named : Names f i.image.directory (bytes_of Tag.key_directory (view f).held)
-  unfolding imaged_in image_in tag_at line_at table
+  unfolding image_in lasting_in tag_at line_at table
   directory-named = names i.image.directory Index.key_directory (lit< tt) (ap (λ (x : Imaged). x.image.directory) here)
 
   pub doubles-named : Names f i.image.doubles (bytes_of Tag.doubles (view f).held)
-  unfolding imaged_in image_in tag_at line_at table
+  unfolding image_in lasting_in tag_at line_at table
   doubles-named = names i.image.doubles Index.doubles (lit< tt) (ap (λ (x : Imaged). x.image.doubles) here)
 
   pub characters-named : Names f i.image.characters (bytes_of Tag.characters (view f).held)
-  unfolding imaged_in image_in tag_at line_at table
+  unfolding image_in lasting_in tag_at line_at table
   characters-named = names i.image.characters Index.characters (lit< tt) (ap (λ (x : Imaged). x.image.characters) here)
 
   pub scale-named : Names f i.scale (bytes_of Tag.scale (view f).held)
-  unfolding imaged_in image_in tag_at line_at table
+  unfolding image_in lasting_in tag_at line_at table
   scale-named = names i.scale Index.scale (lit< tt) (ap (λ (x : Imaged). x.scale) here)
 
   pub tiepoint-named : Names f i.tiepoint (bytes_of Tag.tiepoint (view f).held)
-  unfolding imaged_in image_in tag_at line_at table
+  unfolding image_in lasting_in tag_at line_at table
   tiepoint-named = names i.tiepoint Index.tiepoint (lit< tt) (ap (λ (x : Imaged). x.tiepoint) here)
 
   pub matrix-named : Names f i.matrix (bytes_of Tag.matrix (view f).held)
-  unfolding imaged_in image_in tag_at line_at table
+  unfolding image_in lasting_in tag_at line_at table
   matrix-named = names i.matrix Index.matrix (lit< tt) (ap (λ (x : Imaged). x.matrix) here)
 
   -- the runs that the survey is handed
@@ -101,7 +102,7 @@ module _ (f : List ℕ) {i : Imaged} (is : Ok i ≡ image_of f) where
 
     module _ {r : Result Surveyed Verdict} (so : r ≡ surveyed_of (runs i.image.big directory doubles characters) scale tiepoint matrix i.image.size.width i.image.size.length) where
       survey-is : r ≡ ruled (survey_stage (view f)) (survey_found (runs_of (view f)) (survey_of (view f)))
-      unfolding surveyed_of survey_stage survey_rules runs_of survey_of imaged_in image_in
+      unfolding surveyed_of survey_stage survey_rules runs_of survey_of image_in lasting_in
       survey-is =
           so
           ∙ (λ k. surveyed_of
@@ -118,7 +119,7 @@ module _ (f : List ℕ) {i : Imaged} (is : Ok i ≡ image_of f) where
 
       -- neither refuses
       pub both-good : {j : Surveyed} → Ok j ≡ r → Ok (record { surveyed = j; image = i.image }) ≡ own_of f
-      unfolding examined_in imaged_in
+      unfolding examined_in image_in
       both-good {j} h =
           let w = found-ruled (survey_stage (view f)) _ j (h ∙ survey-is) in
           (λ k. Ok (record { surveyed = w.1 k; image = (here k).image }))
@@ -126,9 +127,9 @@ module _ (f : List ℕ) {i : Imaged} (is : Ok i ≡ image_of f) where
 
 -- ---- and then the mask
 
-module _ (f : List ℕ) {i : Image} (here : i ≡ own_image f) where
+module _ (f : List ℕ) {i : Image} (here : i ≡ lasting_image f) where
   next-is : i.next ≡ next_of (view f) (next_in f (head_in f))
-  unfolding image_in
+  unfolding lasting_in
   next-is = ap (λ (x : Image). x.next) here
 
   -- there is none
@@ -163,7 +164,7 @@ module _ (f : List ℕ) {i : Image} (here : i ≡ own_image f) where
 
     -- what the mask is asked with
     pub mask-asked : (file_stage f).number ≡ 0 → Before f i n
-    unfolding image_in view view_at
+    unfolding lasting_in view view_at
     mask-asked z =
         record {
           own = z;
@@ -216,10 +217,28 @@ module _ (f : List ℕ) {e : Examined} (is : Ok e ≡ own_of f) where
   unfolding own_of
   here-own = (found-ruled (file_stage f) _ e is).1
 
-  -- the image is the file's
-  pub own-image-is : e.image ≡ own_image f
-  unfolding examined_in
-  own-image-is = ap (λ (x : Examined). x.image) here-own
+  -- the image is the file's, with where the three values stand that the survey alone asked for
+  pub own-image-is : Ok (record {
+        image = e.image;
+        scale = tag_part Tag.scale (view f).held;
+        tiepoint = tag_part Tag.tiepoint (view f).held;
+        matrix = tag_part Tag.matrix (view f).held;
+      })
+      ≡ image_of f
+  unfolding image_of image_in examined_in file_stage
+  own-image-is =
+      (λ i. Ok (record {
+        image = (here-own i).image;
+        scale = tag_part Tag.scale (view f).held;
+        tiepoint = tag_part Tag.tiepoint (view f).held;
+        matrix = tag_part Tag.matrix (view f).held;
+      }))
+      ∙ sym (kept-ruled (image_stage f) (own_image f) (chain-both (image_stage f) (survey_stage (view f)) own-zero).0)
+
+  -- and what is told of it to the end
+  pub lasting-image-is : e.image ≡ lasting_image f
+  unfolding image_of image_in
+  lasting-image-is = ap (λ (x : Imaged). x.image) (found-ruled (image_stage f) (own_image f) _ own-image-is).1
 
   left-mask : examined_of f ≡ ruled (mask_stage f) (examined_in f)
   unfolding own_of examined_of verdict_of
@@ -236,4 +255,4 @@ module _ (f : List ℕ) {e : Examined} (is : Ok e ≡ own_of f) where
 
   -- and there is no mask
   pub unmasked : e.image.next ≡ None → Ok e ≡ examined_of f
-  unmasked n = kept-mask (alone f own-image-is n)
+  unmasked n = kept-mask (alone f lasting-image-is n)

@@ -6,17 +6,22 @@ use Rattle.paper.specs.Outcome.{verdict}
 use Rattle.paper.specs.declared.Judged.{Judged}
 use Rattle.paper.specs.declared.Verdict.{Verdict}
 use Rattle.outcomes.specs.Ruled.{ruled}
-use Rattle.image.specs.Imaging.{image_in}
+use Rattle.image.specs.Imaging.{lasting_in, image_in}
 use Rattle.image.specs.declared.Image.{Image}
+use Rattle.image.specs.declared.Imaged.{Imaged}
 use Rattle.survey.specs.Surveying.{survey_found}
 use Rattle.judge.specs.declared.Examined.{Examined}
 
 -- the image of a file
-abbrev pub own_image : List ℕ → Image
+abbrev pub own_image : List ℕ → Imaged
 own_image f = image_in (view f) (next_in f (head_in f))
 
+-- what of it is told to the end
+abbrev pub lasting_image : List ℕ → Image
+lasting_image f = lasting_in (view f) (next_in f (head_in f))
+
 unfoldable pub examined_in : List ℕ → Examined
-examined_in f = record { surveyed = survey_found (runs_of (view f)) (survey_of (view f)); image = own_image f }
+examined_in f = record { surveyed = survey_found (runs_of (view f)) (survey_of (view f)); image = lasting_image f }
 
 unfoldable pub examined_of : List ℕ → Result Examined Verdict
 examined_of f = ruled (verdict_of f) (examined_in f)

@@ -6,7 +6,7 @@ ghost use Rattle.std.specs.Prelude.{◌≡◌, Some};
 ghost use Rattle.paper.specs.Judge.{file_stage, mask_stage};
 ghost use Rattle.paper.specs.Calls.{judged_of};
 ghost use Rattle.outcomes.specs.Ruled.{ruled};
-ghost use Rattle.judge.specs.Examining.{own_image, examined_of, own_of, judged_by};
+ghost use Rattle.judge.specs.Examining.{lasting_image, examined_of, own_of, judged_by};
 
 use image::{Image, Next};
 use keys::Values;
@@ -45,7 +45,7 @@ fn examine_own(file: &[u8]) -> Result<Examined, Verdict>
 
 // Rule 28 of a file that keeps its own rules, whose image this is and whose next offset leads to a mask.
 fn masked(file: &[u8], image: &Image, next: Next) -> Result<(), Verdict>
-    requires { ((file_stage file.now).number ≡ 0) × (image.now ≡ own_image file.now) × (image.now.next ≡ Some next) }
+    requires { ((file_stage file.now).number ≡ 0) × (image.now ≡ lasting_image file.now) × (image.now.next ≡ Some next) }
     ensures { result ≡ ruled (mask_stage file.now) tt }
 {
     second::judge_mask(file, image, next).map_err(|number| Verdict {

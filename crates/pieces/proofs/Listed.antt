@@ -1,6 +1,7 @@
 -- The gap of a reading list and what it meets, part by part. Assumes nothing.
-use Rattle.std.proofs.Common.{◌≡◌, ℕ, zero, suc, ◌+◌, ◌<◌, ◌≤◌, Bool, true, false, cond, not, ◌&&◌, ◌||◌, eqb, ltb, leb, List, [], ◌∷◌, ◌++◌, length, get_or, refl, sym, ap, ◌∙◌, append-nil, add-one, add-zero, zero-add, take, arith, ltb-true, ltb-false, le-leb, ne_eqb}
+use Rattle.std.proofs.Common.{◌≡◌, ℕ, zero, suc, ◌+◌, ◌<◌, ◌≤◌, Bool, true, false, cond, not, ◌&&◌, ◌||◌, eqb, ltb, leb, List, [], ◌∷◌, ◌++◌, length, get_or, refl, sym, ap, ◌∙◌, append-nil, add-one, add-zero, zero-add, take, fold, arith, ltb-true, ltb-false, le-leb, ne_eqb}
 use mathlib.Core.Bool.{and_assoc}
+use mathlib.Core.List.{append_assoc}
 use Rattle.std.proofs.lemmas.List.{take_more, take_all}
 use Rattle.std.proofs.lemmas.Bool.{lt-leb, or_left, or_right, or_from}
 use Rattle.paper.specs.Bytes.{build}
@@ -141,14 +142,48 @@ pub gap-whole : (ps : List Part) (n s : ℕ) → 8 ≤ s → (r : Gap) → ((k :
 gap-whole ps n s h r narrowed = rw append-nil at (narrowed n [] (found-gap s n [] (whole n) (around-none s n h)))
 
 -- and with those that its further entries name
-pub gap-found : (s n : ℕ) → 8 ≤ s → (l : Listing) (file first g : Gap) (j i : ℕ) → file ≡ whole n → Narrowed s file (take j l.parts.now) first
+pub gap-narrowed : (s n : ℕ) → 8 ≤ s → (l : Listing) (file first g : Gap) (j i : ℕ) → file ≡ whole n → Narrowed s file (take j l.parts.now) first
     → length l.parts.now ≤ j → Narrowed s first (build (named_at l.big l.further.now) 0 i) g → i ≤ further_many l → further_many l ≤ i
     → Found s n (listed l) g
 unfolding listed
-gap-found s n h l file first g j i w a z b low high =
+gap-narrowed s n h l file first g j i w a z b low high =
     let e : i ≡ further_many l = omega arith in
     narrow-end s first l.big l.further.now (further_many l) g (rw e at b) n (parts_of l.parts.now)
     (gap-whole l.parts.now n s h first (by_end s (whole n) l.parts.now j first (rw w at a) z))
+
+-- the gap with some parts, one after another
+abbrev pub narrowed_by : ℕ → Gap → List Part → Gap
+narrowed_by s g ps = fold (narrowed s) g ps
+
+pub narrowed-more : (s : ℕ) (g : Gap) (at : ℕ → Part) (k : ℕ) → narrowed_by s g (build at 0 (k + 1)) ≡ narrowed s (narrowed_by s g (build at 0 k)) (at k)
+unfolding build
+narrowed-more s g at k = rw add-one (go g 0 k ∙ ap (λ (j : ℕ). narrowed s (narrowed_by s g (build at 0 k)) (at j)) (zero-add k))
+  where
+    go : (h : Gap) (i k : ℕ) → narrowed_by s h (build at i (suc k)) ≡ narrowed s (narrowed_by s h (build at i k)) (at (i + k))
+    go h i zero = ap (λ (j : ℕ). narrowed s h (at j)) (sym (add-zero i))
+    go h i (suc k) = go (narrowed s h (at i)) (suc i) k ∙ ap (λ (j : ℕ). narrowed s (narrowed_by s h (build at i (suc k))) (at j)) (omega arith)
+
+-- it has these parts more: those of a list, and those that a run of entries names
+narrow-by : (s : ℕ) (g : Gap) (seen ps : List Part) (h : Gap) → Narrowed s g seen h → Narrowed s g (seen ++ ps) (narrowed_by s h ps)
+narrow-by s g seen [] h a = rw append-nil a
+narrow-by s g seen (p ∷ ps) h a =
+    rw (← append_assoc seen (p ∷ []) ps) (narrow-by s g (seen ++ p ∷ []) ps (narrowed s h p) (narrow-part s g seen h a p (narrowed s h p) refl))
+
+named-by : (s : ℕ) (g : Gap) (big : Bool) (f : List ℕ) (k : ℕ) → Narrowed s g (build (named_at big f) 0 k) (narrowed_by s g (build (named_at big f) 0 k))
+unfolding build
+named-by s g big f zero = narrow_start s g
+named-by s g big f (suc k) =
+    let more = narrow-turn s g big f k _ (named-by s g big f k) _ (narrowed-more s g (named_at big f) k) in
+    rw add-one at more
+
+-- so the gap of a whole file, with the parts of a list and then with those that its further entries name
+pub gap-found : (s n : ℕ) → 8 ≤ s → (l : Listing) (i : ℕ) → i ≤ further_many l → further_many l ≤ i → (g : Gap)
+    → g ≡ narrowed_by s (narrowed_by s (whole n) l.parts.now) (build (named_at l.big l.further.now) 0 i) → Found s n (listed l) g
+gap-found s n h l i a b g e =
+    let first = narrowed_by s (whole n) l.parts.now in
+    let parts : Narrowed s (whole n) l.parts.now first = narrow-by s (whole n) [] l.parts.now (whole n) (narrow_start s (whole n)) in
+    let named : Narrowed s first (build (named_at l.big l.further.now) 0 i) g = rw e (named-by s first l.big l.further.now i) in
+    gap-narrowed s n h l (whole n) first g (length l.parts.now) i refl (rw (take_all (length l.parts.now) l.parts.now (omega arith)) parts) (omega arith) named a b
 
 -- ---- meets: one part after another
 

@@ -21,7 +21,7 @@ use Rattle.keys.specs.Pass.{runs}
 use Rattle.keys.specs.Rows.{RowAsked, starts_in}
 use Rattle.keys.proofs.Rows.{row-asks}
 use Rattle.keys.proofs.Turn.{entry-any}
-use Rattle.image.specs.Imaging.{tag_part, image_in}
+use Rattle.image.specs.Imaging.{tag_part, lasting_in}
 use Rattle.judge.specs.Examining.{examined_in, examined_of}
 use Rattle.paper.proofs.Keeps.{rule15-kept, rule17-kept}
 use Rattle.image.proofs.Seen.{Stands}
@@ -70,7 +70,7 @@ module _ (f : List ℕ) (zero : (verdict_of f).number ≡ 0) where
       omega (arith, size f zero, s.within, l)
 
   in-view : (i : ℕ) → i < key_count (runs_of (view f)) → Asked f (plan_by (examined_in f)) i
-  unfolding examined_in image_in tag_part starts_of row_at
+  unfolding examined_in lasting_in tag_part starts_of row_at
   in-view i h =
       let a =
       row-asks (view f).head.big (Part Tag.key_directory) (Part Tag.doubles) (Part Tag.characters) (starts_of (view f)) i

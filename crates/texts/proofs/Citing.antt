@@ -26,7 +26,7 @@ use Rattle.tags.specs.Index
 use Rattle.tags.specs.Slots.{tag_at, line_at}
 use Rattle.keys.specs.Pass.{runs}
 use Rattle.keys.proofs.Head.{Headed, headed}
-use Rattle.image.specs.Imaging.{tag_part, image_in}
+use Rattle.image.specs.Imaging.{tag_part, lasting_in}
 use Rattle.judge.specs.Examining.{examined_in}
 use Rattle.judge.specs.declared.Examined.{Examined}
 use Rattle.image.proofs.Seen.{Stands}
@@ -67,7 +67,7 @@ module _ (f : List ℕ) (zero : (verdict_of f).number ≡ 0) where
   Entries = build (key_at (runs Found.image.big Directory [] [])) 0 Found.surveyed.keys
 
   pub directory-within : Found.image.directory.start + Found.image.directory.len ≤ length f
-  unfolding examined_in image_in tag_part
+  unfolding examined_in lasting_in tag_part
   directory-within = directory.within
 
   head-is : Headed (view f).head.big (bytes_of Tag.key_directory (view f).held)
@@ -79,11 +79,11 @@ module _ (f : List ℕ) (zero : (verdict_of f).number ≡ 0) where
   few = head-is.few
 
   pub whole : 8 + 8 * Found.surveyed.keys ≤ length Directory
-  unfolding examined_in image_in tag_part runs_of key_count short
+  unfolding examined_in lasting_in tag_part runs_of key_count short
   whole = rw directory.bytes head-is.whole
 
   entries-are : Entries ≡ keys (runs_of (view f))
-  unfolding examined_in image_in tag_part runs_of keys key_count short key_at
+  unfolding examined_in lasting_in tag_part runs_of keys key_count short key_at
   entries-are = ap (λ (d : List ℕ). build (key_at (runs (view f).head.big d [] [])) 0 (key_count (runs_of (view f)))) directory.bytes
 
   pub kind_refused : (k : ℕ) → (kind_of k ≡ 2 → ⊥) → cited_of f k ≡ uncited k
@@ -117,7 +117,7 @@ module _ (f : List ℕ) (zero : (verdict_of f).number ≡ 0) where
       key-is = ap (λ (y : KeyEntry). y.key) (sym is-x.0) ∙ is-x.1
 
       pub key_cited : cited_of f k ≡ record { verdict = record { number = 0; place = 0 }; start = Found.image.characters.start + x.index; len = x.count - 1 }
-      unfolding cited_of cited_in rule26 first has_key starts_of examined_in image_in tag_part
+      unfolding cited_of cited_in rule26 first has_key starts_of examined_in lasting_in tag_part
       key_cited = answer-good f (cited_in k) _ zero ∙ rw (eq-eqb _ 2 ascii, eq-eqb _ k key-is, is-x.0)
 
       chars-length : length (runs_of (view f)).characters ≡ (find Tag.characters (view f).held).entry.len
@@ -132,7 +132,7 @@ module _ (f : List ℕ) (zero : (verdict_of f).number ≡ 0) where
       some-there = rw is-x.0 of-paper.0
 
       pub in-file : Found.image.characters.start + x.index + x.count ≤ length f
-      unfolding examined_in image_in tag_part
+      unfolding examined_in lasting_in tag_part
       in-file = rw is-x.0 (omega (arith, of-paper.1, chars-length, characters.within))
 
 -- what `find_citation` asks of all that

@@ -30,7 +30,7 @@ use Rattle.layout.specs.declared.Further.{Further}
 use Rattle.layout.proofs.Repeats.{many_is}
 use Rattle.tags.specs.Index
 use Rattle.tags.specs.Slots.{tag_at, line_at}
-use Rattle.image.specs.Imaging.{tag_part, text_part, image_in}
+use Rattle.image.specs.Imaging.{tag_part, text_part, lasting_in}
 use Rattle.image.proofs.Seen.{Stands}
 use Rattle.judge.specs.Examining.{examined_in}
 use Rattle.judge.specs.declared.Examined.{Examined}
@@ -67,14 +67,14 @@ module _ (f : List ℕ) (zero : (verdict_of f).number ≡ 0) where
 
   -- number 0, with m bytes outside
   pub first_told : (m : ℕ) → text_of f 0 m ≡ text_or m (Ok Found.image.metadata)
-  unfolding examined_in image_in text_part tag_part text_before
+  unfolding examined_in lasting_in text_part tag_part text_before
   first_told m =
       text-once f m
       ∙ answer-good f (text_before m) _ zero
       ∙ told-either m (has Tag.metadata (view f).held) (tag_part Tag.metadata (view f).held)
 
   pub first_within : IfSome Found.image.metadata (λ p. p.start + p.len ≤ length f)
-  unfolding examined_in image_in text_part tag_part
+  unfolding examined_in lasting_in text_part tag_part
   first_within = within-either (length f) (has Tag.metadata (view f).held) (tag_part Tag.metadata (view f).held) stands-in.within
 
   -- the further entries
@@ -85,11 +85,11 @@ module _ (f : List ℕ) (zero : (verdict_of f).number ≡ 0) where
   Seconds = further_of (head_in f).at Es
 
   further-is : Found.image.further ≡ Seconds
-  unfolding examined_in image_in view view_at
+  unfolding examined_in lasting_in view view_at
   further-is = ap (further_of (head_in f).at) (entries-held table f Es)
 
   big_is : Found.image.big ≡ (head_in f).big
-  unfolding examined_in image_in view view_at
+  unfolding examined_in lasting_in view view_at
   big_is = refl
 
   pub room : Found.image.further.start + 12 * Found.image.further.many ≤ length f

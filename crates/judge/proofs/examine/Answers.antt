@@ -1,13 +1,13 @@
 -- `examine` asks for what the file shows by its own rules, then for its mask. Assumes nothing.
 use mathlib.Core.Path.{sym, ◌∙◌}
 use Rattle.std.proofs.lemmas.Result.{err_from_is_err_and}
-use Rattle.judge.proofs.Examining.{own-bad, own-zero, own-image-is, unmasked, refused-mask, kept-mask}
+use Rattle.judge.proofs.Examining.{own-bad, own-zero, lasting-image-is, unmasked, refused-mask, kept-mask}
 use Rattle.judge.proofs.examine.Goals as goal
 
 pub masked-requires : goal.masked-requires
 masked-requires c =
     let own = sym c.in-Ok.is ∙ c.examine_own.ensures in
-    (own-zero _ own, own-image-is _ own, c.in-Some.is)
+    (own-zero _ own, lasting-image-is _ own, c.in-Some.is)
 
 pub returns-in_err-masked-in-Ok : goal.returns-in_err-masked-in-Ok
 returns-in_err-masked-in-Ok c =

@@ -1,7 +1,7 @@
 -- `gap` narrows that of the whole file by the parts, and then by those that the entries name. Assumes nothing.
 use Rattle.std.proofs.Common.{rules}
 use Rattle.paper.specs.Bytes.{build}
-use Rattle.pieces.proofs.Listed.{low-cut, part-low, narrow_start, by_turn, narrow-turn, gap-found}
+use Rattle.pieces.proofs.Listed.{low-cut, part-low, narrow_start, by_turn, narrow-turn, gap-narrowed}
 use Rattle.pieces.proofs.listing.Listing.gap.Goals as goal
 
 pub loop-p-init : goal.loop-p-init
@@ -23,4 +23,4 @@ pub loop-i-preserved : goal.loop-i-preserved
 loop-i-preserved c = narrow-turn _ _ _ _ _ _ c.loop-i.invariant _ (rw (← c.named.ensures.0) c.narrow-g-in-loop-i.ensures)
 
 pub returns : goal.returns
-returns c = search (rules, gap-found)
+returns c = search (rules, gap-narrowed)
