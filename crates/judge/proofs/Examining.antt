@@ -219,11 +219,11 @@ module _ (f : List ℕ) {e : Examined} (is : Ok e ≡ own_of f) where
 
   -- the image is the file's, with where the three values stand that the survey alone asked for
   pub own-image-is : Ok (record {
-        image = e.image;
-        scale = tag_part Tag.scale (view f).held;
-        tiepoint = tag_part Tag.tiepoint (view f).held;
-        matrix = tag_part Tag.matrix (view f).held;
-      })
+    image = e.image;
+    scale = tag_part Tag.scale (view f).held;
+    tiepoint = tag_part Tag.tiepoint (view f).held;
+    matrix = tag_part Tag.matrix (view f).held;
+  })
       ≡ image_of f
   unfolding image_of image_in examined_in file_stage
   own-image-is =
