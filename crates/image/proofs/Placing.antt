@@ -44,7 +44,7 @@ use Rattle.pieces.specs.Spans.{span_of, places_judged, placed_of}
 use Rattle.pieces.specs.declared.Span.{Span}
 use Rattle.image.specs.Naming.{named_pieces, Named}
 use Rattle.image.specs.Stages.{Fits, pieces_judged, placed_in, outer_of}
-use Rattle.image.proofs.Naming.{named as named_by}
+use Rattle.image.proofs.Naming.{numbers-of, named as named_by}
 use Rattle.image.proofs.Listed.{later_parts, keep_append, columns-judged}
 
 -- a list of parts with those that are chosen alone: none of the others counts
@@ -276,7 +276,7 @@ module _ {f : List ℕ} {big : Bool} {at c : ℕ} {t : Pictured} {found : List E
     byte_counts = subst (Column (byte_counts_tag Hs)) (sym (is_y ∙ ap slot_of_byte_counts picture.tiled_is)) known.byte_counts
 
     pub pieces-named : Named table f big at c (at_slot found x) (at_slot found y)
-    pieces-named = named_by table big at c p.passed.ready.size offsets byte_counts
+    pieces-named = named_by table big at c p.passed.ready.size (numbers-of offsets) (numbers-of byte_counts)
 
     outer-parts : parts_of (outer_of found x y (part at (dir_len c))) ≡ parts_of (map value_part (firsts (line_tags table) (entries_at f big at c))) ++ keep wide Ends
     outer-parts =

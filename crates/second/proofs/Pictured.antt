@@ -33,7 +33,7 @@ use Rattle.image.proofs.Seen as Seen
 use Rattle.image.specs.Naming.{Named}
 use Rattle.image.specs.declared.Image.{Image}
 use Rattle.image.specs.declared.Next.{Next}
-use Rattle.image.proofs.Naming.{named}
+use Rattle.image.proofs.Naming.{numbers-of, named}
 use Rattle.crossing.specs.Pictures.{pictures_of}
 use Rattle.mask.proofs.Masked.{masked}
 use Rattle.second.specs.Before.{Before, Third, crossed}
@@ -48,8 +48,8 @@ module _ {f : List ℕ} {i : Image} {n : Next} {d : Directory} {t : Bool} {found
       let k = masked i.size.width i.size.length f d.big d.at d.count found p.known.ready p.tagged in
       let h = held_at (mask_table i.size.width i.size.length) f d.big d.at d.count in
       named (mask_table i.size.width i.size.length) d.big d.at d.count p.known.ready.size
-      (subst (PieceColumn f h found (piece_count d.big h) (offsets_tag h)) (sym is-a) k.offsets)
-      (subst (PieceColumn f h found (piece_count d.big h) (byte_counts_tag h)) (sym is_b) k.byte_counts)
+      (numbers-of (subst (PieceColumn f h found (piece_count d.big h) (offsets_tag h)) (sym is-a) k.offsets))
+      (numbers-of (subst (PieceColumn f h found (piece_count d.big h) (byte_counts_tag h)) (sym is_b) k.byte_counts))
 
 -- ---- the image
 
@@ -142,8 +142,8 @@ module _ {f : List ℕ} {i : Image} {n : Next} (b : Before f i n) where
               behind = behind;
               ten = known.ten;
               named = named table i.big i.at c Small
-                  (subst (PieceColumn f h found (piece_count i.big h) (offsets_tag h)) (sym (is_x ∙ ap slot_of_offsets tiled_is)) known.offsets)
-                  (subst (PieceColumn f h found (piece_count i.big h) (byte_counts_tag h)) (sym (is_y ∙ ap slot_of_byte_counts tiled_is)) known.byte_counts);
+                  (numbers-of (subst (PieceColumn f h found (piece_count i.big h) (offsets_tag h)) (sym (is_x ∙ ap slot_of_offsets tiled_is)) known.offsets))
+                  (numbers-of (subst (PieceColumn f h found (piece_count i.big h) (byte_counts_tag h)) (sym (is_y ∙ ap slot_of_byte_counts tiled_is)) known.byte_counts));
               thirteen = ap (rule13 (length f)) (sym q) ∙ Seen.thirteen-kept f (image-zero b);
               fourteen = (λ j. rule14 (full_of (sym own.view_is j)) (pieces_of (sym own.view_is j))) ∙ Seen.fourteen-kept f (image-zero b);
               span_is = b.span_is ∙ ap span_of q;
