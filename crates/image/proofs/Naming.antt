@@ -20,7 +20,7 @@ use Rattle.tags.specs.Tagging.{view_of}
 use Rattle.tags.proofs.Accepted.{PieceColumn}
 use Rattle.image.specs.Naming.{named_pieces, Named}
 
--- what is asked of the offsets and of the byte counts: numbers of a width that the type tells, one for each piece
+-- what is asked of the offsets and of the byte counts, numbers of a width that the type tells, one for each piece: `PieceColumn`, whatever types there are
 pub record PieceNumbers (f : List ℕ) (hs : List Held) (found : List Entry) (pieces t k : ℕ) : Type 0 where
   pub slot : Slot f hs found t k
   pub wide : size_of (at_slot found k).typ ≡ width (eqb (at_slot found k).typ 4)

@@ -3,6 +3,7 @@ use Rattle.std.proofs.Common.{◌≡◌, ℕ, zero, suc, ◌+◌, ◌<◌, ◌�
 use mathlib.Core.Bool.{and_assoc}
 use mathlib.Core.List.{append_assoc}
 use Rattle.std.proofs.lemmas.List.{take_more, take_all}
+use Rattle.std.proofs.lemmas.List.Sums.{fold-append}
 use Rattle.std.proofs.lemmas.Bool.{lt-leb, or_left, or_right, or_from}
 use Rattle.paper.specs.Bytes.{build}
 use Rattle.paper.specs.Tests.{all, some, keep}
@@ -156,12 +157,7 @@ abbrev pub narrowed_by : ℕ → Gap → List Part → Gap
 narrowed_by s g ps = fold (narrowed s) g ps
 
 pub narrowed-more : (s : ℕ) (g : Gap) (at : ℕ → Part) (k : ℕ) → narrowed_by s g (build at 0 (k + 1)) ≡ narrowed s (narrowed_by s g (build at 0 k)) (at k)
-unfolding build
-narrowed-more s g at k = rw add-one (go g 0 k ∙ ap (λ (j : ℕ). narrowed s (narrowed_by s g (build at 0 k)) (at j)) (zero-add k))
-  where
-    go : (h : Gap) (i k : ℕ) → narrowed_by s h (build at i (suc k)) ≡ narrowed s (narrowed_by s h (build at i k)) (at (i + k))
-    go h i zero = ap (λ (j : ℕ). narrowed s h (at j)) (sym (add-zero i))
-    go h i (suc k) = go (narrowed s h (at i)) (suc i) k ∙ ap (λ (j : ℕ). narrowed s (narrowed_by s h (build at i (suc k))) (at j)) (omega arith)
+narrowed-more s g at k = ap (narrowed_by s g) (build-more at k) ∙ fold-append (narrowed s) g (build at 0 k) (at k ∷ [])
 
 -- it has these parts more: those of a list, and those that a run of entries names
 narrow-by : (s : ℕ) (g : Gap) (seen ps : List Part) (h : Gap) → Narrowed s g seen h → Narrowed s g (seen ++ ps) (narrowed_by s h ps)
